@@ -1,0 +1,54 @@
+-- Two ways to prove by cases: of a computed choice, and of each number below a bound.
+use mathlib.Core.Path.{_≡_, refl, sym}
+use mathlib.Core.Bool.{Bool, true, false, cond, _&&_, _||_}
+use Prim.Native.Nat.{ℕ, zero, suc, _<_}
+use native.Mathlib.Omega.{arith}
+use lib.Dec.{eqb}
+use borrow.Author.Tests.{eqb-false}
+
+-- what holds of either choice, each where it is taken, holds of the choice
+pub cond-elim : {A : Type 0} (P : A → Type 0) (t : Bool) (a b : A) → (t ≡ true → P a) → (t ≡ false → P b) → P (cond t a b)
+cond-elim P true a b f g = f refl
+cond-elim P false a b f g = g refl
+
+-- a choice that is a value which one of its sides is not: the test went the other way
+pub not-first : {X : Type 0} (t : Bool) (a b v : X) → (a ≡ v → ⊥) → cond t a b ≡ v → (t ≡ false) × (b ≡ v)
+not-first true a b v n e = absurd (n e)
+not-first false a b v n e = (refl, e)
+
+pub not-second : {X : Type 0} (t : Bool) (a b v : X) → (b ≡ v → ⊥) → cond t a b ≡ v → (t ≡ true) × (a ≡ v)
+not-second true a b v n e = (refl, e)
+not-second false a b v n e = absurd (n e)
+
+-- where both are asked and hold, each holds
+pub both : (t u : Bool) → (t && u) ≡ true → (t ≡ true) × (u ≡ true)
+both true u e = (refl, e)
+both false u e = let z : _≡_ {A = ℕ} 0 1 = cc in absurd (omega arith)
+
+-- where one or the other would do and does not, neither holds
+pub neither : (t u : Bool) → (t || u) ≡ false → (t ≡ false) × (u ≡ false)
+neither false u e = (refl, e)
+neither true u e = let z : _≡_ {A = ℕ} 0 1 = cc in absurd (omega arith)
+
+-- tests that come out alike
+pub same-test : (t u : Bool) → (t ≡ true → u ≡ true) → (t ≡ false → u ≡ false) → t ≡ u
+same-test true u f g = sym (f refl)
+same-test false u f g = sym (g refl)
+
+-- of numbers whose test fails, an equation proves anything
+pub unequal : {A : Type 0} (m n : ℕ) → eqb m n ≡ false → m ≡ n → A
+unequal m n h e = absurd (eqb-false m n h e)
+
+-- a fact of each number below n, from a proof for each: `p and q and .. and tt`
+infixr 10 _and_
+abbrev pub _and_ : {A B : Type 0} → A → B → A × B
+_and_ a b = (a, b)
+
+abbrev pub Each : ℕ → (ℕ → Type 0) → Type 0
+Each zero P = Unit {0}
+Each (suc n) P = P 0 × Each n (λ (k : ℕ). P (suc k))
+
+pub each : (n : ℕ) (P : ℕ → Type 0) → Each n P → (c : ℕ) → c < n → P c
+each zero P e c h = absurd (omega arith)
+each (suc n) P e zero h = e .0
+each (suc n) P e (suc c) h = each n (λ (k : ℕ). P (suc k)) (e .1) c (omega arith)

@@ -1,0 +1,4 @@
+pub mod Cases
+pub mod Every
+pub mod Order
+pub mod Table

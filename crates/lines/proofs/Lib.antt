@@ -1,0 +1,11 @@
+pub mod Claims
+pub mod Marks
+pub mod Extremes
+pub mod Slope
+pub mod Bound
+pub mod Normal
+pub mod Tests
+pub mod Recognition
+pub mod Beginnings
+pub mod Search
+pub mod Unfolding
