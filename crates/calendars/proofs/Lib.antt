@@ -1,0 +1,6 @@
+pub mod Steps
+pub mod Answers
+pub mod Dates
+pub mod Leap
+pub mod Weekdays
+pub mod Claims

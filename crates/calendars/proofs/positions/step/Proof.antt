@@ -1,0 +1,29 @@
+-- `calendars::positions::step` meets its contract.
+use mathlib.Core.Path.{refl, ap}
+use Prim.Native.Nat.{suc}
+use native.Mathlib.Omega.{arith}
+use native.Mathlib.Numerals.{add-one}
+use borrow.Author.Tests.{le-leb, lt-leb}
+use Rattle.rules.specs.Shapes.{before}
+use Rattle.rules.proofs.Tables.{places-small}
+use borrow.Author.Needs.{needs}
+use Rattle.calendars.proofs.positions.step.Statement.{statement}
+use Rattle.calendars.proofs.positions.step.Tie as tie
+
+add-days-before : tie.Need-add-days-before
+add-days-before c = omega (arith, places-small (c .args .s), c .pre .1)
+
+days-before-requires : tie.Need-days-before-requires
+days-before-requires c κs = search needs
+
+add-result : tie.Need-add-result
+add-result c = let s = c .before .before in omega (arith, places-small (s .args .s), s .pre .1)
+
+returns : tie.Need-returns
+returns c = let s = c .before .before in rw (le-leb (before (s .args .s) (suc (s .args .p))) (s .args .day) (omega (arith, c .before .days-before .ensures, ap (before (s .args .s)) (add-one (s .args .p))))) (add-one (s .args .p))
+
+returns-2 : tie.Need-returns-2
+returns-2 c = let s = c .before .before in rw (lt-leb (before (s .args .s) (suc (s .args .p))) (s .args .day) (omega (arith, c .before .days-before .ensures, ap (before (s .args .s)) (add-one (s .args .p))))) refl
+
+pub step-spec : {M : Type 1} → statement M
+step-spec = tie.close (tie.spec add-days-before days-before-requires add-result returns returns-2)

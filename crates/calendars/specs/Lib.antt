@@ -1,0 +1,4 @@
+pub mod Parts
+pub mod Positions
+pub mod Years
+pub mod Paper

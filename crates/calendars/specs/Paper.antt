@@ -1,0 +1,30 @@
+-- The answers in document 01's words: each case of an answer as its number and its values. A refusal has its number, and 0 in all other fields.
+use lib.IntN.{pos}
+use Rattle.answers.specs.Number.{numberOf}
+use Rattle.rules.specs.Answers.{DayAnswer, DateAnswer, LengthAnswer}
+use Rattle.calendars.specs.Parts.{MonthAnswer}
+use Rattle.calendars.specs.declared.Sought.{Sought}
+use Rattle.calendars.specs.declared.Sought.the-variants as S
+use Rattle.calendars.specs.declared.Day.{Day}
+use Rattle.calendars.specs.declared.Day.the-variants as N
+use Rattle.calendars.specs.declared.Dated.{Dated}
+use Rattle.calendars.specs.declared.Dated.the-variants as D
+use Rattle.calendars.specs.declared.Length.{Length}
+use Rattle.calendars.specs.declared.Length.the-variants as L
+
+-- the same of a position that was sought
+abbrev pub monthPaper : Sought → MonthAnswer
+monthPaper (S.At m) = record { number = 0; start = m .start; days = m .days }
+monthPaper (S.Refused why) = record { number = numberOf why; start = 0; days = 0 }
+
+abbrev pub dayPaper : Day → DayAnswer
+dayPaper (N.Number n) = record { number = 0; day = n }
+dayPaper (N.Refused why) = record { number = numberOf why; day = 0 }
+
+abbrev pub datePaper : Dated → DateAnswer
+datePaper (D.On date) = record { number = 0; year = date .year; month = date .month; day = date .day }
+datePaper (D.Refused why) = record { number = numberOf why; year = pos 0; month = 0; day = 0 }
+
+abbrev pub lengthPaper : Length → LengthAnswer
+lengthPaper (L.Days n) = record { number = 0; days = n }
+lengthPaper (L.Refused why) = record { number = numberOf why; days = 0 }

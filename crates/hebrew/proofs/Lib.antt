@@ -1,0 +1,10 @@
+pub mod Months
+pub mod Gates
+pub mod Rules
+pub mod Lengths
+pub mod SixKinds
+pub mod Calendar
+pub mod Estimate
+pub mod Bounds
+pub mod Examples
+pub mod Claims
