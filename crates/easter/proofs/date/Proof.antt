@@ -1,0 +1,49 @@
+-- `easter::date` meets its contract.
+use mathlib.Core.Path.{_≡_}
+use mathlib.Core.Bool.{false, and-false}
+use mathlib.Core.Logic.{⊎-elim}
+use lib.Dec.{eqb}
+use borrow.Author.Needs.{needs}
+use borrow.Author.Tests.{eq-eqb, ne-eqb, lt-ltb, le-ltb}
+use Rattle.easter_rule.specs.Rule.{exceptionI, exceptionII, dated}
+use Rattle.easter.proofs.date.Statement.{statement}
+use Rattle.easter.proofs.date.Tie as tie
+
+returns : tie.Need-returns
+unfolding dated
+returns c = rw (eq-eqb _ 29 (c .if2 .taken), eq-eqb _ 6 (c .before .if1 .taken))
+
+mul-if4 : tie.Need-mul-if4
+mul-if4 c = search needs
+
+add-if4 : tie.Need-add-if4
+add-if4 c = search needs
+
+returns-2 : tie.Need-returns-2
+unfolding dated
+returns-2 c =
+    let s = c .before .before in
+    rw (ne-eqb _ 29 (s .if2 .left), eq-eqb _ 28 (c .before .if3 .taken), eq-eqb _ 6 (s .before .if1 .taken), lt-ltb _ 19 (c .if4 .taken))
+
+ordinary-date-requires : tie.Need-ordinary-date-requires
+ordinary-date-requires c κs = search needs
+
+-- by each way past the tests, neither exception applies
+not-one : (c : tie.Joined1) → exceptionI (c .before .args .d) (c .before .args .e) ≡ false
+not-one c =
+    ⊎-elim (λ w. rw (ne-eqb _ 29 (w .1 .left)))
+    (⊎-elim (λ w. rw (ne-eqb _ 29 (w .1 .left))) (λ w. rw (ne-eqb _ 6 (w .left)) (and-false (eqb (c .before .args .d) 29))))
+    (c .if1 .came)
+
+not-two : (c : tie.Joined1) → exceptionII (c .before .args .m) (c .before .args .d) (c .before .args .e) ≡ false
+not-two c =
+    ⊎-elim (λ w. rw (eq-eqb _ 28 (w .2 .taken), eq-eqb _ 6 (w .0 .taken), le-ltb _ 19 (w .3 .left)))
+    (⊎-elim (λ w. rw (ne-eqb _ 28 (w .2 .left))) (λ w. rw (ne-eqb _ 6 (w .left)) (and-false (eqb (c .before .args .d) 28))))
+    (c .if1 .came)
+
+returns-3 : tie.Need-returns-3
+unfolding dated
+returns-3 c = rw (not-one (c .before), not-two (c .before)) (c .ordinary-date .ensures)
+
+pub date-spec : {M : Type 1} → statement M
+date-spec = tie.close (tie.spec returns mul-if4 add-if4 returns-2 ordinary-date-requires returns-3)

@@ -1,0 +1,80 @@
+// Compares the length of a Hebrew year with the sum of its positions and, where the next year begins within the day numbers, with the days from its
+// first day to the next year's.
+use crate::rows;
+use crate::rows::Line;
+use crate::tally;
+use crate::tally::Finding;
+use answers::Refusal;
+use calendars::Date;
+use calendars::Day;
+use calendars::Length;
+
+pub(crate) fn compare_with(row: Line) -> Finding {
+    let n = row.numbers;
+    compare(n[0], rows::unsigned_year(row), n[2])
+}
+
+fn compare(calendar: u64, year: u64, length: u64) -> Finding {
+    if 20000 <= year {
+        return Finding::Differs;
+    }
+    if sum_of_positions(calendar, year as i64) != length {
+        return Finding::Differs;
+    }
+    match first_day(calendar, (year + 1) as i64) {
+        Day::Number(next) => tally::agrees_if(begins_before(calendar, year as i64, length, next)),
+        Day::Refused(why) => beyond(why),
+    }
+}
+
+// Above year 13,759 the next year's first day is past the last day number; no other refusal is right.
+fn beyond(why: Refusal) -> Finding {
+    match why {
+        Refusal::DayOutOfRange => Finding::AgreesInPart,
+        _ => Finding::Differs,
+    }
+}
+
+fn first_day(calendar: u64, year: i64) -> Day {
+    calendars::date_to_day(
+        calendar,
+        Date {
+            year,
+            month: 1,
+            day: 1,
+        },
+    )
+}
+
+// Whether the year begins that many days before the next one.
+fn begins_before(calendar: u64, year: i64, length: u64, next: u64) -> bool {
+    match first_day(calendar, year) {
+        Day::Number(first) => {
+            if next < first {
+                return false;
+            }
+            next - first == length
+        }
+        Day::Refused(_) => false,
+    }
+}
+
+// Thirteen lengths are far from wrapping.
+fn sum_of_positions(calendar: u64, year: i64) -> u64 {
+    let mut sum = 0;
+    for position in 1..14u64 {
+        sum = std::num::wrapping_add_u64(
+            sum,
+            days(calendars::position_length(calendar, year, position)),
+        );
+    }
+    sum
+}
+
+// A position that is refused has no days.
+fn days(answer: Length) -> u64 {
+    match answer {
+        Length::Days(n) => n,
+        Length::Refused(_) => 0,
+    }
+}

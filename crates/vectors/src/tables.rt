@@ -1,0 +1,118 @@
+// Compares the rows of one table, which is read in parts.
+use crate::dates;
+use crate::easters;
+use crate::hebrew_years;
+use crate::rows;
+use crate::rows::Line;
+use crate::rows::Place;
+use crate::tally;
+use crate::tally::Finding;
+use crate::tally::Tally;
+
+// What the numbers of a table's rows are.
+pub enum Table {
+    // Calendar, year, month, day, day number.
+    Dates,
+    // The same, of Easter Sundays.
+    Easters,
+    // Calendar, year, length of the year.
+    Lengths,
+}
+
+// How many numbers a row has.
+fn width(table: Table) -> usize {
+    match table {
+        Table::Lengths => 3,
+        _ => 5,
+    }
+}
+
+// A row that cannot be read differs.
+fn compare_row(table: Table, line: Line) -> Finding {
+    if !rows::has_numbers(line, width(table)) {
+        return Finding::Differs;
+    }
+    match table {
+        Table::Dates => tally::agrees_if(dates::agrees_with(line)),
+        Table::Easters => tally::agrees_if(easters::agrees_with(line)),
+        Table::Lengths => hebrew_years::compare_with(line),
+    }
+}
+
+// The line that is being read, the counts of the rows before it, and whether the file has ended.
+struct Scan {
+    line: Line,
+    tally: Tally,
+    is_ended: bool,
+}
+
+fn end_line(table: Table, scan: Scan) -> Scan {
+    let line = scan.line;
+    let place = line.place;
+    let before = scan.tally;
+    match place {
+        Place::Comment => Scan {
+            line: rows::empty(),
+            tally: before,
+            is_ended: scan.is_ended,
+        },
+        _ => Scan {
+            line: rows::empty(),
+            tally: tally::with_row(before, compare_row(table, line)),
+            is_ended: scan.is_ended,
+        },
+    }
+}
+
+fn take_byte(table: Table, scan: Scan, byte: u8) -> Scan {
+    if byte == b'\n' {
+        return end_line(table, scan);
+    }
+    let before = scan.tally;
+    Scan {
+        line: rows::take_byte(scan.line, byte),
+        tally: before,
+        is_ended: scan.is_ended,
+    }
+}
+
+fn take_bytes(table: Table, scan: Scan, bytes: &[u8]) -> Scan {
+    let mut next = scan;
+    for i in 0..bytes.len() {
+        next = take_byte(table, next, bytes[i]);
+    }
+    next
+}
+
+fn read_part(file: i32, table: Table, scan: Scan) -> Scan {
+    let mut buffer = io::buffer();
+    let n = io::read_full(file, &mut buffer);
+    let mut next = take_bytes(table, scan, &buffer[..n]);
+    next.is_ended = n == 0;
+    next
+}
+
+// The counts of a whole table. A proved loop has to end: 1,000,000 parts are more than any table has.
+pub(crate) fn compare(file: i32, table: Table) -> Tally {
+    let mut scan = Scan {
+        line: rows::empty(),
+        tally: tally::none(),
+        is_ended: false,
+    };
+    for _ in 0..1000000u64 {
+        scan = read_part(file, table, scan);
+        if scan.is_ended {
+            return ended(table, scan);
+        }
+    }
+    ended(table, scan)
+}
+
+// A last line without a newline counts if it has bytes.
+fn ended(table: Table, scan: Scan) -> Tally {
+    if rows::is_empty(scan.line) {
+        return scan.tally;
+    }
+    let last = end_line(table, scan);
+    last.tally
+}
