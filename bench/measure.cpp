@@ -1,0 +1,274 @@
+// Measures the exported functions and the sheet program against their peers, all in one run, and prints medians and ratios.
+// measure SHEET DIGITS FRAMES: the sheet program, the plain digit checker, and a file to write frames to.
+#include <fcntl.h>
+#include <sys/resource.h>
+#include <sys/wait.h>
+#include <time.h>
+#include <unistd.h>
+
+#include <algorithm>
+#include <chrono>
+#include <cinttypes>
+#include <cstdio>
+#include <cstdlib>
+#include <functional>
+#include <string>
+#include <vector>
+
+#include "../include/ijok.h"
+#include "../tests/independent/random.h"
+
+extern "C" uint64_t plain_fit(const uint64_t *code, size_t count);
+
+namespace {
+
+// Processor time of this process and of the programs that it ran, in nanoseconds: what other work on the machine takes is not counted.
+double processor_time() {
+    timespec t;
+    clock_gettime(CLOCK_PROCESS_CPUTIME_ID, &t);
+    rusage children;
+    getrusage(RUSAGE_CHILDREN, &children);
+    auto ns = [](const timeval &v) { return double(v.tv_sec) * 1e9 + double(v.tv_usec) * 1e3; };
+    return double(t.tv_sec) * 1e9 + double(t.tv_nsec) + ns(children.ru_utime) + ns(children.ru_stime);
+}
+
+uint64_t kept;  // every result ends here, so that no call is left out
+
+double middle(std::vector<double> times) {
+    std::sort(times.begin(), times.end());
+    return times[times.size() / 2];
+}
+
+// The median processor time of each way, in nanoseconds a unit, and the median over the rounds of the first's ratio to the second's: the two of a round run one after the
+// other, so that a ratio holds where the machine is shared and its speed changes.
+struct Medians {
+    std::vector<double> times;
+    double ratio;
+};
+
+// Several ways to do the same amount of work, measured in turn in each round.
+struct Race {
+    std::vector<std::function<uint64_t()>> ways;
+
+    Medians medians(int rounds, double units) const {
+        std::vector<std::vector<double>> times(ways.size());
+        for (int round = -1; round < rounds; ++round)  // the first round only warms up
+            for (size_t w = 0; w < ways.size(); ++w) {
+                double start = processor_time();
+                kept += ways[w]();
+                double ns = processor_time() - start;
+                if (round >= 0) times[w].push_back(ns / units);
+            }
+        Medians result;
+        std::vector<double> ratios;
+        for (int round = 0; round < rounds; ++round) ratios.push_back(times[0][size_t(round)] / times[1][size_t(round)]);
+        for (auto &t : times) result.times.push_back(middle(t));
+        result.ratio = middle(ratios);
+        return result;
+    }
+};
+
+// ---- conversions
+
+constexpr uint64_t LAST_DAY = 5373484;
+constexpr int64_t EPOCH = 2440588;  // the day of 1 January 1970
+
+struct Row {
+    uint64_t number;
+    const char *name;
+    uint64_t first_day;
+};
+
+const std::vector<Row> ROWS = {{1, "Egyptian", 1448638},  {2, "Armenian", 1922868},   {3, "Khwarizmian", 1952068}, {4, "Persian", 1952063},
+                               {5, "Ethiopian", 1724221}, {6, "Coptic", 1825030},     {7, "Republican", 2375840},  {8, "Macedonian", 1607709},
+                               {9, "Syrian", 1607739},    {10, "Julian", 0},          {11, "Gregorian", 38},       {12, "Islamic A", 1948439},
+                               {13, "Islamic B", 1948440}, {14, "Bahai", 2394647},    {15, "Saka", 1749995},       {18, "Hebrew", 347998}};
+
+struct Date {
+    int64_t year;
+    uint64_t month, day;
+};
+
+inline uint64_t chrono_date(uint64_t n) {
+    std::chrono::year_month_day d{std::chrono::sys_days{std::chrono::days{int64_t(n) - EPOCH}}};
+    return (uint64_t(int(d.year()) + 4712) << 32) + (uint64_t(unsigned(d.month())) << 16) + unsigned(d.day());
+}
+
+inline uint64_t chrono_day(const Date &d) {
+    std::chrono::year_month_day date{std::chrono::year{int(d.year)}, std::chrono::month{unsigned(d.month)}, std::chrono::day{unsigned(d.day)}};
+    return uint64_t(std::chrono::sys_days{date}.time_since_epoch().count() + EPOCH);
+}
+
+// As a caller of a library would reach it.
+__attribute__((noinline)) uint64_t chrono_date_called(uint64_t n) {
+    asm volatile("");
+    return chrono_date(n);
+}
+
+__attribute__((noinline)) uint64_t chrono_day_called(int64_t year, uint64_t month, uint64_t day) {
+    asm volatile("");
+    return chrono_day({year, month, day});
+}
+
+// The same with the date checked, as ours checks it: 4 where the year has no such day, 5 past the last day.
+__attribute__((noinline)) uint64_t chrono_day_checked(int64_t year, uint64_t month, uint64_t day) {
+    if (year < -4712 || year > 20000) return uint64_t(2) << 32;
+    if (month < 1 || month > 12) return uint64_t(3) << 32;
+    std::chrono::year_month_day date{std::chrono::year{int(year)}, std::chrono::month{unsigned(month)}, std::chrono::day{unsigned(day)}};
+    if (day > 31 || !date.ok()) return uint64_t(4) << 32;
+    uint64_t n = uint64_t(std::chrono::sys_days{date}.time_since_epoch().count() + EPOCH);
+    return n > LAST_DAY ? uint64_t(5) << 32 : n;
+}
+
+Date unpacked(uint64_t p) { return {int64_t(p >> 32 & 0xffff) - 4712, p >> 16 & 0xffff, p & 0xffff}; }
+
+template <class F, class T>
+std::function<uint64_t()> over(const std::vector<T> &inputs, F f) {
+    return [&inputs, f] {
+        uint64_t sum = 0;
+        for (const T &x : inputs) sum += f(x);
+        return sum;
+    };
+}
+
+void conversions() {
+    constexpr int COUNT = 20000, ROUNDS = 201;
+    std::printf("Conversions of %d random days of each calendar's range, medians of %d rounds, ns each; a ratio is the median of the rounds' ratios.\n", COUNT, ROUNDS);
+    std::printf("chrono: libstdc++'s std::chrono::year_month_day and sys_days on the same days (Gregorian), inlined in the loop.\n\n");
+    std::printf("| Calendar | day to date | chrono | ratio | date to day | chrono | ratio |\n|---|---|---|---|---|---|---|\n");
+    std::vector<double> called_there, called_back, checked_back;
+    Random random{1};
+    for (const Row &row : ROWS) {
+        std::vector<uint64_t> days;
+        std::vector<Date> dates, gregorian;
+        uint64_t c = row.number;
+        for (int k = 0; k < COUNT; ++k) {
+            uint64_t n = random.between(row.first_day, LAST_DAY);
+            days.push_back(n);
+            dates.push_back(unpacked(ijok_day_to_date(c, n)));
+            gregorian.push_back(unpacked(chrono_date(n)));
+            if (ijok_date_to_day(c, dates.back().year, dates.back().month, dates.back().day) != n) std::printf("calendar %" PRIu64 " disagrees with itself on day %" PRIu64 "\n", c, n);
+            if (c == 11 && ijok_day_to_date(c, n) != chrono_date(n)) std::printf("chrono disagrees on day %" PRIu64 "\n", n);
+        }
+        Race to_date{{over(days, [c](uint64_t n) { return ijok_day_to_date(c, n); }), over(days, [](uint64_t n) { return chrono_date(n); }), over(days, [](uint64_t n) { return chrono_date_called(n); })}};
+        Race to_day{{over(dates, [c](const Date &d) { return ijok_date_to_day(c, d.year, d.month, d.day); }), over(gregorian, [](const Date &d) { return chrono_day(d); }),
+                     over(gregorian, [](const Date &d) { return chrono_day_called(d.year, d.month, d.day); }), over(gregorian, [](const Date &d) { return chrono_day_checked(d.year, d.month, d.day); })}};
+        auto there = to_date.medians(ROUNDS, COUNT), back = to_day.medians(ROUNDS, COUNT);
+        called_there.push_back(there.times[2]);
+        called_back.push_back(back.times[2]);
+        checked_back.push_back(back.times[3]);
+        std::printf("| %s | %.1f | %.1f | %.1f | %.1f | %.1f | %.1f |\n", row.name, there.times[0], there.times[1], there.ratio, back.times[0], back.times[1], back.ratio);
+        std::fflush(stdout);
+    }
+    std::printf("\nchrono behind a call, as ours is: %.1f day to date, %.1f date to day, %.1f with the date checked (medians over the rows).\n", middle(called_there), middle(called_back), middle(checked_back));
+}
+
+// ---- fits
+
+using Code = std::vector<uint64_t>;
+
+Code line_code(uint64_t a, uint64_t b, uint64_t r) {
+    Code code;
+    for (uint64_t k = 0; k < 512; ++k) code.push_back((a * (k + 1) + r) / b - (a * k + r) / b);
+    return code;
+}
+
+// 512 lengths of a line with a denominator above 256, which is the least.
+Code accepted(Random &random) {
+    while (true) {
+        uint64_t b = random.between(257, 512);
+        Code code = line_code(random.between(0, 399 * b), b, random.between(0, b - 1));
+        uint64_t fit = ijok_fit(code.data(), 512);
+        if (fit >> 48 == 0 && (fit >> 12 & 0xfff) > 256) return code;
+    }
+}
+
+// The same with the last length changed so that no line generates it, though one generates the first 511.
+Code refused(Random &random) {
+    while (true) {
+        Code code = accepted(random);
+        code[511] = code[511] == 0 || random.next() % 2 ? code[511] + 1 : code[511] - 1;
+        if (ijok_fit(code.data(), 511) >> 48 == 0 && ijok_fit(code.data(), 512) >> 48 == 7) return code;
+    }
+}
+
+void fits() {
+    constexpr int COUNT = 40, ROUNDS = 201;
+    std::printf("\nFits of 512 lengths, %d codes of each kind, medians of %d rounds, microseconds each.\n", COUNT, ROUNDS);
+    std::printf("plain: a Rust fitter that tries the denominators in turn with the band test (bench/plain_fitter.rs).\n\n");
+    std::printf("| Codes | ijok_fit | plain | ratio |\n|---|---|---|---|\n");
+    Random random{2};
+    for (bool good : {true, false}) {
+        std::vector<Code> codes;
+        for (int k = 0; k < COUNT; ++k) {
+            codes.push_back(good ? accepted(random) : refused(random));
+            if (ijok_fit(codes.back().data(), 512) != plain_fit(codes.back().data(), 512)) std::printf("the fitters disagree\n");
+        }
+        Race race{{over(codes, [](const Code &c) { return ijok_fit(c.data(), c.size()); }), over(codes, [](const Code &c) { return plain_fit(c.data(), c.size()); })}};
+        auto t = race.medians(ROUNDS, COUNT);
+        std::printf("| %s | %.1f | %.1f | %.2f |\n", good ? "accepted with a denominator above 256" : "refused only at the last length", t.times[0] / 1000, t.times[1] / 1000, t.ratio);
+        std::fflush(stdout);
+    }
+}
+
+// ---- sheets
+
+constexpr int FRAMES = 3000000;
+
+void write_frame(FILE *f, uint64_t calendar, uint64_t n) {
+    Date d = unpacked(ijok_day_to_date(calendar, n));
+    std::fprintf(f, "%02" PRIx64 "%04" PRIx64 "%02" PRIx64 "%02" PRIx64 "%06" PRIx64 "\n", calendar, uint64_t(d.year + 4712), d.month, d.day, n);
+}
+
+// Right frames: Gregorian days in order, or any days of all calendars.
+void write_frames(const char *file, bool ordered) {
+    FILE *f = std::fopen(file, "w");
+    if (!f) std::exit(2);
+    Random random{3};
+    for (int k = 0; k < FRAMES; ++k) {
+        const Row &row = ROWS[random.next() % ROWS.size()];
+        if (ordered)
+            write_frame(f, 11, LAST_DAY - FRAMES + uint64_t(k));
+        else
+            write_frame(f, row.number, random.between(row.first_day, LAST_DAY));
+    }
+    std::fclose(f);
+}
+
+uint64_t run(const char *program, const char *file) {
+    pid_t child = fork();
+    if (child == 0) {
+        dup2(open(file, O_RDONLY), 0);
+        dup2(open("/dev/null", O_WRONLY), 1);
+        execl(program, program, static_cast<char *>(nullptr));
+        _exit(127);
+    }
+    int status = 1;
+    waitpid(child, &status, 0);
+    if (status) std::printf("%s failed\n", program);
+    return uint64_t(status);
+}
+
+void sheets(const char *sheet, const char *digits, const char *file) {
+    constexpr int ROUNDS = 15;
+    std::printf("\nSheets: %d right frames from a file, answers to /dev/null, medians of %d runs, ns a line.\n", FRAMES, ROUNDS);
+    std::printf("digits: a plain C program that looks at the digits by a byte table and at nothing else (bench/digits.c).\n\n");
+    std::printf("| Frames | sheet | digits | ratio |\n|---|---|---|---|\n");
+    for (bool ordered : {true, false}) {
+        write_frames(file, ordered);
+        Race race{{[=] { return run(sheet, file); }, [=] { return run(digits, file); }}};
+        auto t = race.medians(ROUNDS, FRAMES);
+        std::printf("| %s | %.1f | %.1f | %.2f |\n", ordered ? "Gregorian days in order" : "any days of all calendars", t.times[0], t.times[1], t.ratio);
+        std::fflush(stdout);
+    }
+}
+
+}  // namespace
+
+int main(int argc, char **argv) {
+    conversions();
+    fits();
+    if (argc == 4) sheets(argv[1], argv[2], argv[3]);
+    std::fprintf(stderr, "(sum of all results, so that none is left out: %" PRIu64 ")\n", kept);
+    return 0;
+}

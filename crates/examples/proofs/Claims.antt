@@ -1,0 +1,32 @@
+-- Each starred example of document 01 is answered as it says: one table, one statement. Both sides are computed, the days of the years by counting them one by
+-- one, but for the Hebrew years, whose first days are those that the rules give.
+use mathlib.Core.Path.{_≡_, refl}
+use Prim.Native.Nat.{ℕ, _+_, _-_}
+use native.Mathlib.Omega.{arith}
+use lib.IntN.{pos}
+use Rattle.counting.specs.Calendar.{total, start, dayOf}
+use Rattle.hebrew.specs.Hebrew.{leap, monthsIn, monthsBefore, moon, moonDay, moonHour, secondApplies, thirdApplies, moved, fourthApplies, fourth, newYear, ofTotal}
+use Rattle.hebrew.specs.Hebrew.{lengths as hebrewLengths}
+use Rattle.lines.specs.Line.{sumTo}
+use Rattle.basics.specs.Every.{every}
+use Rattle.lines.specs.Fit.{first, peak, within, offset, offsetOf, passes, answerOf, fitOf}
+use Rattle.rules.specs.Calendars.{calendar, years}
+use Rattle.rules.specs.Answers.{dayAnswer}
+use Rattle.rules.proofs.HebrewYears.{start-18}
+use Rattle.examples.specs.Starred.{starred, AllAnswered}
+
+-- the days before a Hebrew year, from its first day by the rules
+before-year : (i n : ℕ) → newYear (i + 1) ≡ n → start (years 18) i ≡ n - 347998
+before-year i n e = omega (arith, start-18 i)
+
+hebrew-5784 : dayAnswer 18 (pos 5784) 1 1 ≡ record { number = 0; day = 2460204 }
+unfolding dayAnswer calendar dayOf total leap monthsIn monthsBefore moon moonDay moonHour secondApplies thirdApplies moved fourthApplies fourth newYear ofTotal hebrewLengths
+hebrew-5784 = rw (before-year 5783 2460204 refl) refl
+
+hebrew-5785 : dayAnswer 18 (pos 5785) 1 1 ≡ record { number = 0; day = 2460587 }
+unfolding dayAnswer calendar dayOf total leap monthsIn monthsBefore moon moonDay moonHour secondApplies thirdApplies moved fourthApplies fourth newYear ofTotal hebrewLengths
+hebrew-5785 = rw (before-year 5784 2460587 refl) refl
+
+pub starred-answered : AllAnswered starred
+unfolding dayAnswer calendar years dayOf start total fitOf within every passes offsetOf offset peak sumTo first answerOf
+starred-answered = (refl, (refl, (refl, (refl, (refl, (refl, (refl, (refl, (hebrew-5784, (hebrew-5785, (refl, (refl, (refl, (refl, (refl, (refl, tt))))))))))))))))
