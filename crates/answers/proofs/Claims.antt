@@ -3,7 +3,10 @@ use mathlib.Core.Path.{_≡_, refl, sym, ap, _∙_}
 use mathlib.Core.List.{List, [], _∷_}
 use Prim.Native.Nat.{ℕ, _-_, _≤_}
 use native.Mathlib.Omega.{arith}
+use mathlib.Core.Bool.{false}
+use lib.Dec.{eqb}
 use lib.ListN.{getD}
+use borrow.Author.Tests.{ne-eqb}
 use Rattle.answers.specs.declared.Refusal.{Refusal}
 use Rattle.answers.specs.declared.Refusal.the-variants.{UnknownCalendar, YearOutOfRange, NoSuchMonth, NoSuchDay, DayOutOfRange, CodeOutOfLimits, NoLine, MalformedFrame, WrongDay, LineOutOfLimits, BufferTooShort}
 use Rattle.answers.specs.Number.{numberOf}
@@ -41,6 +44,10 @@ back BufferTooShort = (refl, omega arith)
 -- no refusal has the number 0, which is that of an answer
 pub not-done : (why : Refusal) → 1 ≤ numberOf why
 not-done why = back why .1
+
+-- so a test for 0 tells an answer from a refusal
+pub not-zero : (why : Refusal) → eqb (numberOf why) 0 ≡ false
+not-zero why = ne-eqb (numberOf why) 0 (λ e. omega (arith, not-done why))
 
 -- refusals with one number are one refusal
 pub own-number : (x y : Refusal) → numberOf x ≡ numberOf y → x ≡ y

@@ -1,4 +1,5 @@
 -- The answers in two steps are the answers: a refusal of the position is the date's, and of a position that is there the day is looked for.
+use mathlib.Core.List.{List}
 use mathlib.Core.Path.{_≡_, refl, sym, ap, _∙_}
 use mathlib.Core.Bool.{Bool, true, false, cond, _||_}
 use Prim.Native.Nat.{ℕ, _+_, _-_, _≤_, _<_}
@@ -7,7 +8,7 @@ use lib.Dec.{eqb, ltb}
 use lib.IntN.{ℤ}
 use lib.ListN.{take}
 use lib.Signed.{ltZ}
-use borrow.Author.Tests.{le-ltb, not-false}
+use borrow.Author.Tests.{le-ltb, ne-eqb, not-false}
 use Rattle.counting.specs.Calendar.{total, start, len, dayOf}
 use Rattle.counting.specs.Years.{yearsFrom}
 use Rattle.basics.proofs.Cases.{neither}
@@ -20,7 +21,7 @@ use Rattle.rules.proofs.Bounds.{start-within, position-within, year-days}
 use Rattle.rules.specs.Shapes.{rule}
 use Rattle.answers.specs.Number.{numberOf}
 use Rattle.answers.specs.declared.Refusal.{Refusal}
-use Rattle.answers.specs.declared.Refusal.the-variants.{UnknownCalendar, YearOutOfRange, NoSuchMonth, NoSuchDay, DayOutOfRange, CodeOutOfLimits, NoLine, MalformedFrame, WrongDay, LineOutOfLimits, BufferTooShort}
+use Rattle.answers.proofs.Claims.{not-zero}
 use Rattle.calendars.specs.Parts.{MonthAnswer, noMonthAnswer, monthIn, monthAnswer, dayIn}
 
 -- an answer from that of the position
@@ -29,20 +30,6 @@ dayFrom M d = cond (eqb (M .number) 0) (dayIn (M .start) (M .days) d) (noDayAnsw
 
 abbrev lengthFrom : MonthAnswer → LengthAnswer
 lengthFrom M = cond (eqb (M .number) 0) (record { number = 0; days = M .days }) (noLengthAnswer (M .number))
-
--- no refusal has the number 0
-refused : (why : Refusal) → eqb (numberOf why) 0 ≡ false
-refused UnknownCalendar = refl
-refused YearOutOfRange = refl
-refused NoSuchMonth = refl
-refused NoSuchDay = refl
-refused DayOutOfRange = refl
-refused CodeOutOfLimits = refl
-refused NoLine = refl
-refused MalformedFrame = refl
-refused WrongDay = refl
-refused LineOutOfLimits = refl
-refused BufferTooShort = refl
 
 module _ (c : ℕ) (y : ℤ) (m : ℕ) where
   abbrev i : ℕ
@@ -63,49 +50,40 @@ module _ (c : ℕ) (y : ℤ) (m : ℕ) where
       or-false true = refl
       or-false false = refl
 
-  day-steps : (d : ℕ) → dayAnswer c y m d ≡ dayFrom (monthAnswer c y m) d
-  unfolding dayAnswer monthAnswer
-  day-steps d = by-list (unlisted c)
+  -- a function f of the position that is sought, where v is what it gives for a year of these lengths: the refusals 1, 2, 3 are tried in the same order
+  steps : {X : Type 0} (f : MonthAnswer → X) (v : List ℕ → X) → v (years c i) ≡ f (record { number = 0; start = b; days = len (years c i) m })
+      → cond (unlisted c) (f (noMonthAnswer 1)) (cond (yearOut c y) (f (noMonthAnswer 2)) (cond (noMonth c y m) (f (noMonthAnswer 3)) (v (calendar c .lengths y))))
+      ≡ f (monthAnswer c y m)
+  unfolding monthAnswer
+  steps {X} f v e = by-list (unlisted c)
     where
-      by-month : (t : Bool) → cond t (noDayAnswer 3) (cond (eqb d 0 || ltb (len (years c i) m) d) (noDayAnswer 4) (cond (dayOut c (dayNumber c y m d)) (noDayAnswer 5) (record { number = 0; day = dayNumber c y m d })))
-          ≡ dayFrom (cond t (noMonthAnswer 3) (record { number = 0; start = b; days = len (years c i) m })) d
+      by-month : (t : Bool) → cond t (f (noMonthAnswer 3)) (v (years c i)) ≡ f (cond t (noMonthAnswer 3) (record { number = 0; start = b; days = len (years c i) m }))
       by-month true = refl
-      by-month false = rw (day-out d, number-is d) refl
+      by-month false = e
 
       by-year : (t : Bool) → yearOut c y ≡ t
-          → cond t (noDayAnswer 2) (cond (noMonth c y m) (noDayAnswer 3) (cond (noDay c y m d) (noDayAnswer 4) (cond (dayOut c (dayNumber c y m d)) (noDayAnswer 5) (record { number = 0; day = dayNumber c y m d }))))
-          ≡ dayFrom (cond t (noMonthAnswer 2) (monthIn c i m)) d
-      by-year true e = refl
-      by-year false e =
-          let f = lengths-at c y (neither (ltZ y (calendar c .firstYear)) (ltZ lastYear y) e .0) in
-          rw f (by-month (eqb m 0 || eqb (len (years c i) m) 0))
+          → cond t (f (noMonthAnswer 2)) (cond (noMonth c y m) (f (noMonthAnswer 3)) (v (calendar c .lengths y))) ≡ f (cond t (noMonthAnswer 2) (monthIn c i m))
+      by-year true h = refl
+      by-year false h =
+          let g = lengths-at c y (neither (ltZ y (calendar c .firstYear)) (ltZ lastYear y) h .0) in
+          rw g (by-month (eqb m 0 || eqb (len (years c i) m) 0))
 
       by-list : (t : Bool)
-          → cond t (noDayAnswer 1) (cond (yearOut c y) (noDayAnswer 2) (cond (noMonth c y m) (noDayAnswer 3) (cond (noDay c y m d) (noDayAnswer 4) (cond (dayOut c (dayNumber c y m d)) (noDayAnswer 5) (record { number = 0; day = dayNumber c y m d })))))
-          ≡ dayFrom (cond t (noMonthAnswer 1) (cond (yearOut c y) (noMonthAnswer 2) (monthIn c i m))) d
+          → cond t (f (noMonthAnswer 1)) (cond (yearOut c y) (f (noMonthAnswer 2)) (cond (noMonth c y m) (f (noMonthAnswer 3)) (v (calendar c .lengths y))))
+          ≡ f (cond t (noMonthAnswer 1) (cond (yearOut c y) (noMonthAnswer 2) (monthIn c i m)))
       by-list true = refl
       by-list false = by-year (yearOut c y) refl
+
+  day-steps : (d : ℕ) → dayAnswer c y m d ≡ dayFrom (monthAnswer c y m) d
+  unfolding dayAnswer
+  day-steps d =
+      steps (λ M. dayFrom M d)
+      (λ ls. cond (eqb d 0 || ltb (len ls m) d) (noDayAnswer 4) (cond (dayOut c (dayNumber c y m d)) (noDayAnswer 5) (record { number = 0; day = dayNumber c y m d })))
+      (rw (day-out d, number-is d) refl)
 
   length-steps : lengthAnswer c y m ≡ lengthFrom (monthAnswer c y m)
-  unfolding lengthAnswer monthAnswer
-  length-steps = by-list (unlisted c)
-    where
-      by-month : (t : Bool) → cond t (noLengthAnswer 3) (record { number = 0; days = len (years c i) m }) ≡ lengthFrom (cond t (noMonthAnswer 3) (record { number = 0; start = b; days = len (years c i) m }))
-      by-month true = refl
-      by-month false = refl
-
-      by-year : (t : Bool) → yearOut c y ≡ t
-          → cond t (noLengthAnswer 2) (cond (noMonth c y m) (noLengthAnswer 3) (record { number = 0; days = lengthIn c y m })) ≡ lengthFrom (cond t (noMonthAnswer 2) (monthIn c i m))
-      by-year true e = refl
-      by-year false e =
-          let f = lengths-at c y (neither (ltZ y (calendar c .firstYear)) (ltZ lastYear y) e .0) in
-          rw f (by-month (eqb m 0 || eqb (len (years c i) m) 0))
-
-      by-list : (t : Bool)
-          → cond t (noLengthAnswer 1) (cond (yearOut c y) (noLengthAnswer 2) (cond (noMonth c y m) (noLengthAnswer 3) (record { number = 0; days = lengthIn c y m })))
-          ≡ lengthFrom (cond t (noMonthAnswer 1) (cond (yearOut c y) (noMonthAnswer 2) (monthIn c i m)))
-      by-list true = refl
-      by-list false = by-year (yearOut c y) refl
+  unfolding lengthAnswer
+  length-steps = steps lengthFrom (λ ls. record { number = 0; days = len ls m }) refl
 
   -- what is answered of a position is small
   pub month-small : (monthAnswer c y m .start ≤ 20000000) × (monthAnswer c y m .days ≤ 385)
@@ -146,11 +124,8 @@ module _ (c : ℕ) (y : ℤ) (m : ℕ) where
 
   -- and one that is refused
   module _ (why : Refusal) (e : noMonthAnswer (numberOf why) ≡ monthAnswer c y m) where
-    not-done : eqb (numberOf why) 0 ≡ false
-    not-done = refused why
-
     pub day-refused : (d : ℕ) → noDayAnswer (numberOf why) ≡ dayAnswer c y m d
-    day-refused d = sym (day-steps d ∙ ap (λ M. dayFrom M d) (sym e) ∙ rw not-done refl)
+    day-refused d = sym (day-steps d ∙ ap (λ M. dayFrom M d) (sym e) ∙ rw (not-zero why) refl)
 
     pub length-refused : noLengthAnswer (numberOf why) ≡ lengthAnswer c y m
-    length-refused = sym (length-steps ∙ ap lengthFrom (sym e) ∙ rw not-done refl)
+    length-refused = sym (length-steps ∙ ap lengthFrom (sym e) ∙ rw (not-zero why) refl)

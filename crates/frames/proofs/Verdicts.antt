@@ -12,7 +12,7 @@ use lib.Seq.{take-all, length-take-le}
 use borrow.Author.Tests.{eq-eqb, ne-eqb, ltb-true, ltb-false}
 use Rattle.answers.specs.Number.{numberOf}
 use Rattle.answers.specs.declared.Refusal.{Refusal}
-use Rattle.answers.specs.declared.Refusal.the-variants.{UnknownCalendar, YearOutOfRange, NoSuchMonth, NoSuchDay, DayOutOfRange, CodeOutOfLimits, NoLine, MalformedFrame, WrongDay, LineOutOfLimits, BufferTooShort}
+use Rattle.answers.proofs.Claims.{not-zero}
 use Rattle.sheets.specs.Digits.{allDigits, isFrame, numberIn}
 use Rattle.sheets.proofs.Digits.{part}
 use Rattle.frames.specs.declared.digits.Digits.the-variants.{Number, Malformed}
@@ -64,17 +64,7 @@ other-day m n h = rw (ne-eqb m n h)
 
 pub refused : (why : Refusal) (n : ℕ) → against (record { number = numberOf why; day = 0 }) n ≡ numberOf why
 unfolding against
-refused UnknownCalendar n = refl
-refused YearOutOfRange n = refl
-refused NoSuchMonth n = refl
-refused NoSuchDay n = refl
-refused DayOutOfRange n = refl
-refused CodeOutOfLimits n = refl
-refused NoLine n = refl
-refused MalformedFrame n = refl
-refused WrongDay n = refl
-refused LineOutOfLimits n = refl
-refused BufferTooShort n = refl
+refused why n = rw (not-zero why)
 
 -- ---- the first 17 bytes fix the verdict
 
