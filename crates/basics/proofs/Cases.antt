@@ -3,22 +3,11 @@ use mathlib.Core.Path.{_≡_, refl, sym}
 use mathlib.Core.Bool.{Bool, true, false, cond, _&&_, _||_}
 use Prim.Native.Nat.{ℕ, zero, suc, _<_}
 use native.Mathlib.Omega.{arith}
-use lib.Dec.{eqb}
-use borrow.Author.Tests.{eqb-false}
 
 -- what holds of either choice, each where it is taken, holds of the choice
 pub cond-elim : {A : Type 0} (P : A → Type 0) (t : Bool) (a b : A) → (t ≡ true → P a) → (t ≡ false → P b) → P (cond t a b)
 cond-elim P true a b f g = f refl
 cond-elim P false a b f g = g refl
-
--- a choice that is a value which one of its sides is not: the test went the other way
-pub not-first : {X : Type 0} (t : Bool) (a b v : X) → (a ≡ v → ⊥) → cond t a b ≡ v → (t ≡ false) × (b ≡ v)
-not-first true a b v n e = absurd (n e)
-not-first false a b v n e = (refl, e)
-
-pub not-second : {X : Type 0} (t : Bool) (a b v : X) → (b ≡ v → ⊥) → cond t a b ≡ v → (t ≡ true) × (a ≡ v)
-not-second true a b v n e = (refl, e)
-not-second false a b v n e = absurd (n e)
 
 -- where both are asked and hold, each holds
 pub both : (t u : Bool) → (t && u) ≡ true → (t ≡ true) × (u ≡ true)
@@ -34,10 +23,6 @@ neither true u e = let z : _≡_ {A = ℕ} 0 1 = cc in absurd (omega arith)
 pub same-test : (t u : Bool) → (t ≡ true → u ≡ true) → (t ≡ false → u ≡ false) → t ≡ u
 same-test true u f g = sym (f refl)
 same-test false u f g = sym (g refl)
-
--- of numbers whose test fails, an equation proves anything
-pub unequal : {A : Type 0} (m n : ℕ) → eqb m n ≡ false → m ≡ n → A
-unequal m n h e = absurd (eqb-false m n h e)
 
 -- a fact of each number below n, from a proof for each: `p and q and .. and tt`
 infixr 10 _and_

@@ -1,5 +1,6 @@
 pub mod Steps
 pub mod Answers
+pub mod ByRow
 pub mod Dates
 pub mod Leap
 pub mod Weekdays

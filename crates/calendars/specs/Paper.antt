@@ -1,7 +1,7 @@
 -- The answers in document 01's words: each case of an answer as its number and its values. A refusal has its number, and 0 in all other fields.
 use lib.IntN.{pos}
 use Rattle.answers.specs.Number.{numberOf}
-use Rattle.rules.specs.Answers.{DayAnswer, DateAnswer, LengthAnswer}
+use Rattle.counting.specs.Answers.{DayAnswer, DateAnswer, LengthAnswer}
 use Rattle.calendars.specs.Parts.{MonthAnswer}
 use Rattle.calendars.specs.declared.Sought.{Sought}
 use Rattle.calendars.specs.declared.Sought.the-variants as S

@@ -1,14 +1,18 @@
--- The answers in two steps, as the code takes them: the position of a year, and then the day in it.
+-- The answers in two steps, as the code takes them: the position of a year, and then the day in it. `first` is a calendar's first year, `day` its first day,
+-- `L` its years from the first.
 use Prim.Native.Nat.{ℕ, _+_, _-_}
 use mathlib.Core.Bool.{cond, _||_}
+use mathlib.Core.List.{List}
 use mathlib.Core.Path.{_≡_}
 use lib.Dec.{eqb, ltb}
 use lib.IntN.{ℤ}
 use lib.ListN.{take}
+use lib.Signed.{ltZ}
 use Rattle.counting.specs.Calendar.{total, start, len, dateAt}
 use Rattle.counting.specs.Years.{yearAt, yearsFrom}
-use Rattle.rules.specs.Calendars.{calendar, years}
-use Rattle.rules.specs.Answers.{DayAnswer, noDayAnswer, unlisted, yearOut, lastDay}
+use Rattle.counting.specs.Answers.{years, DayAnswer, noDayAnswer, DateAnswer, noDateAnswer, lastYear, lastDay}
+use Rattle.rules.specs.Calendars.{calendar}
+use Rattle.rules.specs.Answers.{ofListed}
 
 -- a position: the day that it begins on, and its length
 pub record MonthAnswer : Type 0 where
@@ -20,16 +24,17 @@ abbrev pub noMonthAnswer : ℕ → MonthAnswer
 noMonthAnswer k = record { number = k; start = 0; days = 0 }
 
 -- position m of the year that is i years after the first
-abbrev pub monthIn : ℕ → ℕ → ℕ → MonthAnswer
-monthIn c i m =
-    cond (eqb m 0 || eqb (len (years c i) m) 0) (noMonthAnswer 3)
-    (record { number = 0; start = calendar c .firstDay + start (years c) i + total (take (m - 1) (years c i)); days = len (years c i) m })
+abbrev pub monthIn : ℕ → (ℕ → List ℕ) → ℕ → ℕ → MonthAnswer
+monthIn day L i m =
+    cond (eqb m 0 || eqb (len (L i) m) 0) (noMonthAnswer 3)
+    (record { number = 0; start = day + start L i + total (take (m - 1) (L i)); days = len (L i) m })
+
+-- position m of year y
+abbrev pub monthBy : ℤ → ℕ → (ℕ → List ℕ) → ℤ → ℕ → MonthAnswer
+monthBy first day L y m = cond (ltZ y first || ltZ lastYear y) (noMonthAnswer 2) (monthIn day L (yearsFrom first y) m)
 
 unfoldable pub monthAnswer : ℕ → ℤ → ℕ → MonthAnswer
-monthAnswer c y m =
-    cond (unlisted c) (noMonthAnswer 1)
-    (cond (yearOut c y) (noMonthAnswer 2)
-    (monthIn c (yearsFrom (calendar c .firstYear) y) m))
+monthAnswer c y m = ofListed (calendar c) (noMonthAnswer 1) (λ K. monthBy (K .firstYear) (K .firstDay) (years K) y m)
 
 -- day d of a position that begins on day b and has l days
 abbrev pub dayIn : ℕ → ℕ → ℕ → DayAnswer
@@ -39,7 +44,13 @@ dayIn b l d =
     (record { number = 0; day = b + (d - 1) }))
 
 -- the date that counting n days from the calendar's first reaches
-pub record DateIs (c n : ℕ) (y : ℤ) (m d : ℕ) : Type 0 where
-  pub year : y ≡ yearAt (calendar c .firstYear) (dateAt (years c) n .year)
-  pub month : m ≡ dateAt (years c) n .month
-  pub day : d ≡ dateAt (years c) n .day
+pub record DateIs (first : ℤ) (L : ℕ → List ℕ) (n : ℕ) (y : ℤ) (m d : ℕ) : Type 0 where
+  pub year : y ≡ yearAt first (dateAt L n .year)
+  pub month : m ≡ dateAt L n .month
+  pub day : d ≡ dateAt L n .day
+
+-- the date of day n
+abbrev pub dateBy : ℤ → ℕ → (ℕ → List ℕ) → ℕ → DateAnswer
+dateBy first day L n =
+    cond (ltb lastDay n || ltb n day) (noDateAnswer 5)
+    (record { number = 0; year = yearAt first (dateAt L (n - day) .year); month = dateAt L (n - day) .month; day = dateAt L (n - day) .day })

@@ -7,7 +7,7 @@ ghost use mathlib.Core.Path.{_≡_};
 ghost use Prim.Native.Nat.{_+_, _-_, _%_, _≤_, _<_};
 ghost use lib.ListN.{getD};
 ghost use Rattle.counting.specs.Calendar.{len};
-ghost use Rattle.hebrew.specs.Hebrew.{secondApplies, thirdApplies, moved, fourth, newYear, yearDays, kinds};
+ghost use Rattle.hebrew.specs.Hebrew.{secondApplies, thirdApplies, moved, fourth, newYear, kinds, years};
 ghost use Rattle.rules.specs.Shapes.{YearIs};
 ghost use Rattle.calendars.specs.Years.{FoundIs};
 
@@ -101,7 +101,7 @@ fn new_year(y: u64) -> u64
 // The year y, given its first day and the next year's.
 fn between(y: u64, this: u64, next: u64) -> Year
     requires { ⌜ (1 ≤ y) × (y ≤ 24713) × (this ≡ newYear y) × (next ≡ newYear (y + 1)) ⌝ }
-    ensures { λ r. ⌜ YearIs 18 (y - 1) (r .start) (r .shape) ⌝ }
+    ensures { λ r. ⌜ YearIs years 15 (y - 1) (r .start) (r .shape) ⌝ }
 {
     let days = next - this;
     let start = this - 347998;
@@ -120,7 +120,7 @@ fn between(y: u64, this: u64, next: u64) -> Year
 // The year that is i years after year 1.
 pub(crate) fn year_at(i: u64) -> Year
     requires { ⌜ i ≤ 24712 ⌝ }
-    ensures { λ r. ⌜ YearIs 18 i (r .start) (r .shape) ⌝ }
+    ensures { λ r. ⌜ YearIs years 15 i (r .start) (r .shape) ⌝ }
 {
     between(i + 1, new_year(i + 1), new_year(i + 2))
 }
@@ -128,7 +128,7 @@ pub(crate) fn year_at(i: u64) -> Year
 // The year of the day that is n days after the first.
 pub(crate) fn year_of(n: u64) -> Found
     requires { ⌜ n ≤ 5373484 ⌝ }
-    ensures { λ r. ⌜ FoundIs 18 n (r .place) (r .start) (r .shape) ⌝ }
+    ensures { λ r. ⌜ FoundIs years 15 n (r .place) (r .start) (r .shape) ⌝ }
 {
     let day = n + 347998;
     let y = (n + 28) * 98496 / 35975351 + 1;

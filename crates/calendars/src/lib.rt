@@ -1,5 +1,6 @@
 // The sixteen calendars: the day of a date, the date of a day, and the length of a position in a year.
 use answers::Refusal;
+use rows::Listing;
 use rows::Row;
 
 mod hebrew_year;
@@ -8,11 +9,11 @@ mod rows;
 mod years;
 
 ghost use mathlib.Core.Path.{_≡_};
-ghost use Prim.Native.Nat.{_≤_, _<_};
+ghost use Prim.Native.Nat.{_≤_};
 ghost use Rattle.rules.specs.Answers.{dayAnswer, dateAnswer, lengthAnswer};
-ghost use Rattle.rules.specs.Shapes.{RowOf};
 ghost use Rattle.calendars.specs.Paper.{dayPaper, datePaper, lengthPaper, monthPaper};
-ghost use Rattle.calendars.specs.Parts.{monthIn, monthAnswer, dayIn, DateIs};
+ghost use Rattle.calendars.specs.Parts.{monthIn, monthBy, monthAnswer, dayIn, DateIs, dateBy};
+ghost use Rattle.calendars.specs.Rows.{yearsOf, Proper};
 
 // A date. Years are signed, and year 0 exists; months and days are counted from 1.
 pub struct Date {
@@ -56,14 +57,15 @@ const LAST_YEAR: i64 = 20000;
 const LAST_DAY: u64 = 5373484;
 
 // A position of the year that is i years after the calendar's first.
-fn month_in(c: u64, row: Row, i: u64, month: u64) -> Sought
-    requires { ⌜ RowOf c (row .rule) (row .year) (row .day) (row .phase) (row .shape) × (i ≤ 24712) ⌝ }
-    ensures { λ r. ⌜ monthPaper r ≡ monthIn c i month ⌝ }
+fn month_in(row: Row, i: u64, month: u64) -> Sought
+    requires { ⌜ Proper row × (i ≤ 24712) ⌝ }
+    ensures { λ r. ⌜ monthPaper r ≡ monthIn (row .day) (yearsOf row) i month ⌝ }
 {
     if month == 0 {
         return Sought::Refused(Refusal::NoSuchMonth);
     }
-    let y = years::year_at(c, row, i);
+    let rule = row.rule;
+    let y = years::year_at(rule, row.shape, i);
     let s = y.shape;
     let t = positions::totals_of(row.shape, s);
     let days = positions::length_at(s, t, month);
@@ -75,13 +77,10 @@ fn month_in(c: u64, row: Row, i: u64, month: u64) -> Sought
 }
 
 // A position of a year. The one place where signed years become years from the calendar's first.
-fn month_of(c: u64, year: i64, month: u64) -> Sought
-    ensures { λ r. ⌜ monthPaper r ≡ monthAnswer c year month ⌝ }
+fn month_by(row: Row, year: i64, month: u64) -> Sought
+    requires { ⌜ Proper row ⌝ }
+    ensures { λ r. ⌜ monthPaper r ≡ monthBy (row .year) (row .day) (yearsOf row) year month ⌝ }
 {
-    if !rows::is_listed(c) {
-        return Sought::Refused(Refusal::UnknownCalendar);
-    }
-    let row = rows::row_of(c);
     let first = row.year;
     if year < first {
         return Sought::Refused(Refusal::YearOutOfRange);
@@ -89,7 +88,16 @@ fn month_of(c: u64, year: i64, month: u64) -> Sought
     if LAST_YEAR < year {
         return Sought::Refused(Refusal::YearOutOfRange);
     }
-    month_in(c, row, (year - first) as u64, month)
+    month_in(row, (year - first) as u64, month)
+}
+
+fn month_of(c: u64, year: i64, month: u64) -> Sought
+    ensures { λ r. ⌜ monthPaper r ≡ monthAnswer c year month ⌝ }
+{
+    match rows::row_of(c) {
+        Listing::Known(row) => month_by(row, year, month),
+        Listing::Unknown => Sought::Refused(Refusal::UnknownCalendar),
+    }
 }
 
 // A day of a position, 4 and 5 tried.
@@ -133,11 +141,12 @@ pub fn position_length(calendar: u64, year: i64, position: u64) -> Length
 }
 
 // The date of the day that is n days after the calendar's first.
-fn date_of(c: u64, row: Row, n: u64) -> Date
-    requires { ⌜ RowOf c (row .rule) (row .year) (row .day) (row .phase) (row .shape) × (n ≤ 5373484) ⌝ }
-    ensures { λ r. ⌜ DateIs c n (r .year) (r .month) (r .day) ⌝ }
+fn date_of(row: Row, n: u64) -> Date
+    requires { ⌜ Proper row × (n ≤ 5373484) ⌝ }
+    ensures { λ r. ⌜ DateIs (row .year) (yearsOf row) n (r .year) (r .month) (r .day) ⌝ }
 {
-    let y = years::year_of(c, row, n);
+    let rule = row.rule;
+    let y = years::year_of(rule, row.shape, n);
     let s = y.shape;
     let t = positions::totals_of(row.shape, s);
     let rest = n - y.start;
@@ -149,20 +158,26 @@ fn date_of(c: u64, row: Row, n: u64) -> Date
     }
 }
 
-// The date of a day. The refusals 1, 5 are tried.
-pub fn day_to_date(calendar: u64, day: u64) -> Dated
-    ensures { λ r. ⌜ datePaper r ≡ dateAnswer calendar day ⌝ }
+fn date_by(row: Row, day: u64) -> Dated
+    requires { ⌜ Proper row ⌝ }
+    ensures { λ r. ⌜ datePaper r ≡ dateBy (row .year) (row .day) (yearsOf row) day ⌝ }
 {
-    if !rows::is_listed(calendar) {
-        return Dated::Refused(Refusal::UnknownCalendar);
-    }
     if LAST_DAY < day {
         return Dated::Refused(Refusal::DayOutOfRange);
     }
-    let row = rows::row_of(calendar);
     if day < row.day {
         return Dated::Refused(Refusal::DayOutOfRange);
     }
     let n = day - row.day;
-    Dated::On(date_of(calendar, row, n))
+    Dated::On(date_of(row, n))
+}
+
+// The date of a day. The refusals 1, 5 are tried.
+pub fn day_to_date(calendar: u64, day: u64) -> Dated
+    ensures { λ r. ⌜ datePaper r ≡ dateAnswer calendar day ⌝ }
+{
+    match rows::row_of(calendar) {
+        Listing::Known(row) => date_by(row, day),
+        Listing::Unknown => Dated::Refused(Refusal::UnknownCalendar),
+    }
 }

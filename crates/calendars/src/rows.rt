@@ -1,164 +1,152 @@
-// The calendars by their numbers: which are listed, where each begins, the kind of its leap years and the shape of its common year.
-ghost use mathlib.Core.Bool.{true};
-ghost use mathlib.Core.Path.{_≡_};
-ghost use Rattle.rules.specs.Calendars.{listed};
-ghost use Rattle.rules.specs.Shapes.{RowOf};
+// The calendars by their numbers: where each begins, the kind of its leap years and the shape of its common year.
+ghost use Rattle.calendars.specs.Rows.{ListingOf};
 
-// rule: 0 no leap years, 1 one year in four, 2 Gregorian, 3 Islamic, 4 Hebrew. phase: with one in four, the years since the last leap year when the
-// calendar began. shape: that of a common year; the leap year's comes next.
+// How the leap years come.
+pub enum LeapRule {
+    None,
+    // One year in four, where that many years had passed since the last when the calendar began.
+    Fourth { phase: u64 },
+    // The Gregorian rule, where that many years, and days, lie between a year divisible by 400 and the calendar's first.
+    Gregorian { offset: u64, days: u64 },
+    // Eleven years in thirty.
+    Islamic,
+    Hebrew,
+}
+
+// A calendar for code: its first year, the day of 1/1 of that year, and the shape of a common year; the leap year's comes next.
 pub struct Row {
-    pub rule: u64,
+    pub rule: LeapRule,
     pub year: i64,
     pub day: u64,
-    pub phase: u64,
     pub shape: u64,
 }
 
-pub(crate) fn is_listed(c: u64) -> bool
-    ensures { λ r. ⌜ r ≡ listed c ⌝ }
-{
-    if c == 18 {
-        return true;
-    }
-    if c == 0 {
-        return false;
-    }
-    c < 16
+// What a number stands for.
+pub enum Listing {
+    Known(Row),
+    Unknown,
 }
 
 // A match and no array: the compiler makes a table of it that is read where it stands, where an array would be copied at each use.
-pub(crate) fn row_of(c: u64) -> Row
-    requires { ⌜ listed c ≡ true ⌝ }
-    ensures { λ r. ⌜ RowOf c (r .rule) (r .year) (r .day) (r .phase) (r .shape) ⌝ }
+pub(crate) fn row_of(c: u64) -> Listing
+    ensures { λ r. ⌜ ListingOf c r ⌝ }
 {
     match c {
         // Egyptian
-        1 => Row {
-            rule: 0,
+        1 => Listing::Known(Row {
+            rule: LeapRule::None,
             year: 1,
             day: 1448638,
-            phase: 0,
             shape: 0,
-        },
+        }),
         // Armenian
-        2 => Row {
-            rule: 0,
+        2 => Listing::Known(Row {
+            rule: LeapRule::None,
             year: 1,
             day: 1922868,
-            phase: 0,
             shape: 0,
-        },
+        }),
         // Khwarizmian
-        3 => Row {
-            rule: 0,
+        3 => Listing::Known(Row {
+            rule: LeapRule::None,
             year: 1,
             day: 1952068,
-            phase: 0,
             shape: 0,
-        },
+        }),
         // Persian
-        4 => Row {
-            rule: 0,
+        4 => Listing::Known(Row {
+            rule: LeapRule::None,
             year: 1,
             day: 1952063,
-            phase: 0,
             shape: 14,
-        },
+        }),
         // Ethiopian
-        5 => Row {
-            rule: 1,
+        5 => Listing::Known(Row {
+            rule: LeapRule::Fourth { phase: 1 },
             year: 1,
             day: 1724221,
-            phase: 1,
             shape: 0,
-        },
+        }),
         // Coptic
-        6 => Row {
-            rule: 1,
+        6 => Listing::Known(Row {
+            rule: LeapRule::Fourth { phase: 1 },
             year: 1,
             day: 1825030,
-            phase: 1,
             shape: 0,
-        },
+        }),
         // Republican
-        7 => Row {
-            rule: 1,
+        7 => Listing::Known(Row {
+            rule: LeapRule::Fourth { phase: 1 },
             year: 1,
             day: 2375840,
-            phase: 1,
             shape: 0,
-        },
+        }),
         // Macedonian
-        8 => Row {
-            rule: 1,
+        8 => Listing::Known(Row {
+            rule: LeapRule::Fourth { phase: 1 },
             year: 1,
             day: 1607709,
-            phase: 1,
             shape: 2,
-        },
+        }),
         // Syrian
-        9 => Row {
-            rule: 1,
+        9 => Listing::Known(Row {
+            rule: LeapRule::Fourth { phase: 1 },
             year: 1,
             day: 1607739,
-            phase: 1,
             shape: 4,
-        },
+        }),
         // Julian
-        10 => Row {
-            rule: 1,
+        10 => Listing::Known(Row {
+            rule: LeapRule::Fourth { phase: 3 },
             year: -4712,
             day: 0,
-            phase: 3,
             shape: 6,
-        },
+        }),
         // Gregorian
-        11 => Row {
-            rule: 2,
+        11 => Listing::Known(Row {
+            rule: LeapRule::Gregorian {
+                offset: 88,
+                days: 32142,
+            },
             year: -4712,
             day: 38,
-            phase: 0,
             shape: 6,
-        },
+        }),
         // Islamic A
-        12 => Row {
-            rule: 3,
+        12 => Listing::Known(Row {
+            rule: LeapRule::Islamic,
             year: 1,
             day: 1948439,
-            phase: 0,
             shape: 8,
-        },
+        }),
         // Islamic B
-        13 => Row {
-            rule: 3,
+        13 => Listing::Known(Row {
+            rule: LeapRule::Islamic,
             year: 1,
             day: 1948440,
-            phase: 0,
             shape: 8,
-        },
+        }),
         // Bahai
-        14 => Row {
-            rule: 1,
+        14 => Listing::Known(Row {
+            rule: LeapRule::Fourth { phase: 0 },
             year: 1,
             day: 2394647,
-            phase: 0,
             shape: 10,
-        },
+        }),
         // Saka
-        15 => Row {
-            rule: 1,
+        15 => Listing::Known(Row {
+            rule: LeapRule::Fourth { phase: 2 },
             year: 1,
             day: 1749995,
-            phase: 2,
             shape: 12,
-        },
+        }),
         // Hebrew
-        _ => Row {
-            rule: 4,
+        18 => Listing::Known(Row {
+            rule: LeapRule::Hebrew,
             year: 1,
             day: 347998,
-            phase: 0,
             shape: 15,
-        },
+        }),
+        _ => Listing::Unknown,
     }
 }

@@ -4,7 +4,7 @@ use Prim.Native.Nat.{ℕ, zero, suc, _+_, _-_, _≤_, _<_}
 use mathlib.Core.List.{List}
 use mathlib.Core.Logic.{_↔_}
 use native.Mathlib.Omega.{arith}
-use native.Mathlib.Decide.{decLt, le-ind}
+use native.Mathlib.Decide.{le-ind}
 use lib.ListN.{take, drop}
 use lib.Seq.{getD-drop}
 use borrow.Author.Tests.{ltb-true, ltb-false}
@@ -50,7 +50,8 @@ module _ (L : ℕ → List ℕ) where
   earlier D E g k (by-year h) = omega (arith, in-year D g, in-year E k, start-mono (suc (D .year)) (E .year) h)
   earlier D E g k (by-month e h) = go (D .year) (E .year) e (g .day-in-month)
     where
-      go : (i j : ℕ) → i ≡ j → D .day ≤ len (L i) (D .month) → dayOf L (record { year = i; month = D .month; day = D .day }) < dayOf L (record { year = j; month = E .month; day = E .day })
+      go : (i j : ℕ) → i ≡ j → D .day ≤ len (L i) (D .month)
+          → dayOf L (record { year = i; month = D .month; day = D .day }) < dayOf L (record { year = j; month = E .month; day = E .day })
       go i j e d =
           let a : start L i ≡ start L j = ap (start L) e in
           let b = month-ends i (D .month) (D .day) (g .month-from-1) (g .day-from-1) d in
@@ -58,7 +59,8 @@ module _ (L : ℕ → List ℕ) where
           omega (arith, total-take-mono (D .month) (E .month - 1) (L i) (omega arith))
   earlier D E g k (by-day e f h) = go (D .year) (E .year) e (D .month) (E .month) f
     where
-      go : (i j : ℕ) → i ≡ j → (m n : ℕ) → m ≡ n → dayOf L (record { year = i; month = m; day = D .day }) < dayOf L (record { year = j; month = n; day = E .day })
+      go : (i j : ℕ) → i ≡ j → (m n : ℕ) → m ≡ n
+          → dayOf L (record { year = i; month = m; day = D .day }) < dayOf L (record { year = j; month = n; day = E .day })
       go i j e m n f =
           let a : start L i ≡ start L j = ap (start L) e in
           let b : total (take (m - 1) (L i)) ≡ total (take (n - 1) (L j)) = cc in

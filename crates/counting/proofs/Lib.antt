@@ -1,5 +1,6 @@
 pub mod Totals
 pub mod Counting
-pub mod Starts
 pub mod Signs
+pub mod Starts
+pub mod Rounds
 pub mod Claims

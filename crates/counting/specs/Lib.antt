@@ -1,2 +1,4 @@
 pub mod Calendar
 pub mod Years
+pub mod Answers
+pub mod Order

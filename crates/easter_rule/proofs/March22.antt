@@ -3,13 +3,21 @@ use mathlib.Core.Path.{_≡_, refl, ap}
 use mathlib.Core.Bool.{Bool, true, false, cond}
 use Prim.Native.Nat.{ℕ, suc, _+_, _-_, _*_, _/_, _≤_}
 use native.Mathlib.Omega.{arith}
-use lib.Dec.{lit<}
 use lib.IntN.{ℤ, pos}
 use Rattle.counting.specs.Calendar.{total, start}
-use Rattle.rules.specs.Calendars.{years, fromJanuary, remainder, gregorianLeap}
-use Rattle.rules.proofs.Starts.{fourth-year}
-use Rattle.rules.proofs.Gregorian.{from4800, century-room, starts}
-use Rattle.easter_rule.proofs.GoodDates.{FromJanuary, day22March, lengths, julian-row, gregorian-row}
+use Rattle.counting.specs.Answers.{years}
+use Rattle.counting.proofs.Starts.{start-same}
+use Rattle.rules.specs.Shapes.{Common}
+use Rattle.rules.specs.Calendars.{fromJanuary, remainder, gregorianLeap}
+use Rattle.rules.proofs.Rows.{julian-row, gregorian-row}
+use Rattle.rules.proofs.Tables.{pairTest, pair}
+use Rattle.rules.proofs.Years.{fourth-year}
+use Rattle.rules.proofs.Gregorian.{centuryDays, century-room, starts}
+use Rattle.easter_rule.proofs.GoodDates.{januaries, day22March, lengths}
+
+january : Common 365 6
+unfolding pairTest total
+january = pair 365 6 refl
 
 -- the days of a year are those of February and 337 more
 year-days : (t : Bool) → total (fromJanuary t) ≡ cond t 29 28 + 337
@@ -17,19 +25,20 @@ unfolding total
 year-days true = refl
 year-days false = refl
 
-before-next-year : {c first : ℕ} {leap : ℤ → Bool} → FromJanuary c first leap → (A : ℕ) → day22March c first leap A + 285 ≡ first + start (years c) (suc (A + 4712))
+before-next-year : (first : ℕ) (leap : ℤ → Bool) (A : ℕ) → day22March first leap A + 285 ≡ first + start (years (januaries first leap)) (suc (A + 4712))
 unfolding start
-before-next-year {leap = leap} f A = omega (arith, year-days (leap (pos A)), ap total (lengths f A))
+before-next-year first leap A = omega (arith, year-days (leap (pos A)), ap total (lengths first leap A))
 
-pub julian-22 : (A : ℕ) → day22March 10 0 (remainder 0 4) A ≡ 365 * A + A / 4 + 1721139
+pub julian-22 : (A : ℕ) → day22March 0 (remainder 0 4) A ≡ 365 * A + A / 4 + 1721139
 julian-22 A =
     let i = suc (A + 4712) in
     let q : (i + 3) / 4 ≡ A / 4 + 1179 = omega arith in
-    omega (arith, before-next-year julian-row A, fourth-year 10 (lit< tt) refl i .begins)
+    omega (arith, before-next-year 0 (remainder 0 4) A, start-same _ _ julian-row i, fourth-year 3 6 (omega arith) january i .begins)
 
-pub gregorian-22 : (A : ℕ) → day22March 11 38 gregorianLeap A + A / 100 ≡ 365 * A + A / 4 + A / 100 / 4 + 1721141
-unfolding from4800
-gregorian-22 A = sums _ _ _ _ _ _ _ _ _ (before-next-year gregorian-row A) (starts i) (century-room z) (omega arith) (omega arith) (omega arith) (omega arith)
+pub gregorian-22 : (A : ℕ) → day22March 38 gregorianLeap A + A / 100 ≡ 365 * A + A / 4 + A / 100 / 4 + 1721141
+unfolding centuryDays
+gregorian-22 A =
+    sums _ _ _ _ _ _ _ _ _ (before-next-year 38 gregorianLeap A) (rw (start-same _ _ gregorian-row i) (starts 88 6 january i)) (century-room z) (omega arith) (omega arith) (omega arith) (omega arith)
   where
     i : ℕ
     i = suc (A + 4712)

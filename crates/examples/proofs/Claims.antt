@@ -10,23 +10,27 @@ use Rattle.hebrew.specs.Hebrew.{lengths as hebrewLengths}
 use Rattle.lines.specs.Line.{sumTo}
 use Rattle.basics.specs.Every.{every}
 use Rattle.lines.specs.Fit.{first, peak, within, offset, offsetOf, passes, answerOf, fitOf}
-use Rattle.rules.specs.Calendars.{calendar, years}
+use Rattle.counting.specs.Answers.{years, dayFor}
+use Rattle.counting.proofs.Starts.{start-same}
+use Rattle.hebrew.proofs.Calendar.{start-is}
+use Rattle.rules.specs.Calendars.{hebrew, lookup, calendar}
 use Rattle.rules.specs.Answers.{dayAnswer}
-use Rattle.rules.proofs.HebrewYears.{start-18}
+use Rattle.rules.proofs.Rows.{hebrew-row}
 use Rattle.examples.specs.Starred.{starred, AllAnswered}
 
 -- the days before a Hebrew year, from its first day by the rules
-before-year : (i n : ℕ) → newYear (i + 1) ≡ n → start (years 18) i ≡ n - 347998
-before-year i n e = omega (arith, start-18 i)
+before-year : (i n : ℕ) → newYear (i + 1) ≡ n → start (years hebrew) i ≡ n - 347998
+before-year i n e = omega (arith, start-same _ _ hebrew-row i, start-is i)
 
 hebrew-5784 : dayAnswer 18 (pos 5784) 1 1 ≡ record { number = 0; day = 2460204 }
-unfolding dayAnswer calendar dayOf total leap monthsIn monthsBefore moon moonDay moonHour secondApplies thirdApplies moved fourthApplies fourth newYear ofTotal hebrewLengths
+unfolding dayAnswer calendar lookup dayFor dayOf total leap monthsIn monthsBefore moon moonDay moonHour secondApplies thirdApplies moved fourthApplies fourth newYear ofTotal hebrewLengths
 hebrew-5784 = rw (before-year 5783 2460204 refl) refl
 
 hebrew-5785 : dayAnswer 18 (pos 5785) 1 1 ≡ record { number = 0; day = 2460587 }
-unfolding dayAnswer calendar dayOf total leap monthsIn monthsBefore moon moonDay moonHour secondApplies thirdApplies moved fourthApplies fourth newYear ofTotal hebrewLengths
+unfolding dayAnswer calendar lookup dayFor dayOf total leap monthsIn monthsBefore moon moonDay moonHour secondApplies thirdApplies moved fourthApplies fourth newYear ofTotal hebrewLengths
 hebrew-5785 = rw (before-year 5784 2460587 refl) refl
 
 pub starred-answered : AllAnswered starred
-unfolding dayAnswer calendar years dayOf start total fitOf within every passes offsetOf offset peak sumTo first answerOf
-starred-answered = (refl, (refl, (refl, (refl, (refl, (refl, (refl, (refl, (hebrew-5784, (hebrew-5785, (refl, (refl, (refl, (refl, (refl, (refl, tt))))))))))))))))
+unfolding dayAnswer calendar lookup dayFor years dayOf start total fitOf within every passes offsetOf offset peak sumTo first answerOf
+starred-answered =
+    (refl, (refl, (refl, (refl, (refl, (refl, (refl, (refl, (hebrew-5784, (hebrew-5785, (refl, (refl, (refl, (refl, (refl, (refl, tt))))))))))))))))

@@ -5,7 +5,8 @@ use mathlib.Core.List.{List, [], _∷_, _++_}
 use Prim.Native.Nat.{ℕ}
 use lib.IntN.{ℤ, pos, negsuc}
 use Rattle.lines.specs.Fit.{Answer, line, refused, fitOf}
-use Rattle.rules.specs.Answers.{DayAnswer, dayAnswer, noDayAnswer}
+use Rattle.counting.specs.Answers.{DayAnswer, noDayAnswer}
+use Rattle.rules.specs.Answers.{dayAnswer}
 
 -- a question and its answer: the day of a date (calendar, year, month, day), or the line of a code
 pub data Example : Type 0 where

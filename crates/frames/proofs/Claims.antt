@@ -6,6 +6,7 @@ use mathlib.Core.Path.{_≡_, refl, sym, ap, _∙_}
 use mathlib.Core.Logic.{_↔_}
 use mathlib.Core.List.{List, [], _∷_, _++_}
 use mathlib.Core.Bool.{Bool, true, false, cond}
+use mathlib.Core.Option.{Option}
 use Prim.Native.Nat.{ℕ, _*_, _≤_, _<_}
 use native.Mathlib.Omega.{arith}
 use lib.Dec.{eqb}
@@ -13,7 +14,10 @@ use lib.IntN.{ℤ}
 use lib.ListN.{length, take, drop, getD}
 use lib.Seq.{take-at}
 use borrow.Author.Tests.{eqb-true, eqb-false, eq-eqb, ne-eqb}
-use Rattle.rules.specs.Answers.{DayAnswer, dayAnswer, noDayAnswer, unlisted, yearOut, noMonth, noDay, dayOut, dayNumber}
+use Rattle.counting.specs.Answers.{Calendar, DayAnswer, noDayAnswer, dayFor}
+use Rattle.counting.proofs.Rounds.{day-five}
+use Rattle.rules.specs.Calendars.{calendar}
+use Rattle.rules.specs.Answers.{ofListed, dayAnswer}
 use Rattle.sheets.specs.Sheet.{newline, linesOf, twoDigits, outputOf}
 use Rattle.sheets.specs.Digits.{isFrame, calendarIn, yearIn, monthIn, dayIn, dayNumberIn}
 use Rattle.sheets.specs.Pieces.{answers, ending, inPieces, joined}
@@ -33,15 +37,11 @@ answerFor line = dayAnswer (calendarIn line) (yearIn line) (monthIn line) (dayIn
 -- date to day answers no other number than 0 to 5
 five : (c : ℕ) (y : ℤ) (m d : ℕ) → dayAnswer c y m d .number ≤ 5
 unfolding dayAnswer
-five c y m d = go (unlisted c) (yearOut c y) (noMonth c y m) (noDay c y m d) (dayOut c (dayNumber c y m d))
+five c y m d = go (calendar c)
   where
-    go : (p q r s t : Bool) → cond p (noDayAnswer 1) (cond q (noDayAnswer 2) (cond r (noDayAnswer 3) (cond s (noDayAnswer 4) (cond t (noDayAnswer 5) (record { number = 0; day = dayNumber c y m d }))))) .number ≤ 5
-    go true q r s t = omega arith
-    go false true r s t = omega arith
-    go false false true s t = omega arith
-    go false false false true t = omega arith
-    go false false false false true = omega arith
-    go false false false false false = omega arith
+    go : (o : Option Calendar) → ofListed o (noDayAnswer 1) (λ K. dayFor K y m d) .number ≤ 5
+    go Option.none = omega arith
+    go (Option.some K) = day-five K y m d
 
 -- The four cases of a line: no frame, a date that is refused, a good date with another day, and a right frame. What holds of the number in each
 -- case holds of the verdict.

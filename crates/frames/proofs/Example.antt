@@ -3,7 +3,8 @@ use mathlib.Core.Path.{_≡_, refl}
 use mathlib.Core.List.{List, [], _∷_, _++_}
 use Prim.Native.Nat.{ℕ}
 use Rattle.counting.specs.Calendar.{total, start, dayOf}
-use Rattle.rules.specs.Calendars.{calendar, years}
+use Rattle.counting.specs.Answers.{years, dayFor}
+use Rattle.rules.specs.Calendars.{lookup, calendar}
 use Rattle.rules.specs.Answers.{dayAnswer}
 use Rattle.sheets.specs.Sheet.{linesOf, twoDigits, replies, outputOf}
 use Rattle.sheets.specs.Digits.{digitOf, allDigits, isFrame, numberFrom, field}
@@ -21,5 +22,5 @@ abbrev pub output : List ℕ
 output = 48 ∷ 48 ∷ 10 ∷ 48 ∷ 57 ∷ 10 ∷ 48 ∷ 56 ∷ 10 ∷ []
 
 pub example : outputOf verdictOf input ≡ output
-unfolding outputOf linesOf replies twoDigits verdictOf against isFrame allDigits digitOf numberFrom field dayAnswer calendar years dayOf start total
+unfolding outputOf linesOf replies twoDigits verdictOf against isFrame allDigits digitOf numberFrom field dayAnswer calendar lookup dayFor years dayOf start total
 example = refl

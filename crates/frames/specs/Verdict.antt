@@ -4,7 +4,8 @@ use mathlib.Core.Bool.{cond}
 use Prim.Native.Nat.{ℕ}
 use lib.Dec.{eqb}
 use Rattle.answers.specs.Number.{numberOf}
-use Rattle.rules.specs.Answers.{DayAnswer, dayAnswer}
+use Rattle.counting.specs.Answers.{DayAnswer}
+use Rattle.rules.specs.Answers.{dayAnswer}
 use Rattle.sheets.specs.Digits.{isFrame, calendarIn, yearIn, monthIn, dayIn, dayNumberIn}
 use Rattle.frames.specs.declared.Verdict.{Verdict}
 use Rattle.frames.specs.declared.Verdict.the-variants.{Right, Refused}

@@ -1,19 +1,12 @@
 -- The Hebrew calendar in the sense of counting: its years begin on the days that the rules give, and every year has days.
-use Prim.Native.Nat.{ℕ, zero, suc, _+_, _-_, _≤_, _<_}
-use mathlib.Core.Path.{_≡_, refl, sym, _∙_, ap}
-use mathlib.Core.List.{[]}
+use Prim.Native.Nat.{ℕ, zero, suc, _+_, _-_, _≤_}
+use mathlib.Core.Path.{_≡_, refl, sym, ap}
 use native.Mathlib.Omega.{arith}
-use lib.ListN.{getD, length}
 use Rattle.counting.specs.Calendar.{total, start, InYear}
 use Rattle.counting.proofs.Counting.{one-year}
-use Rattle.hebrew.specs.Hebrew.{leap, monthsIn, monthsBefore, moon, moonDay, moonHour, secondApplies, thirdApplies, moved, fourthApplies, fourth, newYear, yearDays, YearOf, kinds, years, kindOf}
+use Rattle.hebrew.specs.Hebrew.{leap, monthsIn, monthsBefore, moon, moonDay, moonHour, secondApplies, thirdApplies, moved, fourthApplies, fourth, newYear, yearDays, YearOf, years}
 use Rattle.hebrew.proofs.Lengths.{grows}
-use Rattle.hebrew.proofs.SixKinds.{year-kind, lengths-row, lengths-total, row-length}
-
--- the row of the year at i, which is year i + 1
-pub year-row : (i : ℕ) → (kindOf (leap (i + 1)) (yearDays (i + 1)) < 6) × (years i ≡ getD kinds (kindOf (leap (i + 1)) (yearDays (i + 1))) [])
-unfolding years
-year-row i = (year-kind (i + 1) (omega arith) .below, lengths-row (i + 1) (omega arith))
+use Rattle.hebrew.proofs.SixKinds.{lengths-total}
 
 -- ---- the days before a year
 
@@ -38,9 +31,6 @@ year-days i = omega (arith, year-total i, grows (i + 1) (omega arith))
 -- what counting's theorems ask of a calendar
 pub has-days : (i : ℕ) → 1 ≤ total (years i)
 has-days i = omega (arith, year-days i)
-
-pub positions : (i : ℕ) → length (years i) ≡ 13
-positions i = let r = year-row i in ap length (r .1) ∙ row-length (kindOf (leap (i + 1)) (yearDays (i + 1))) (r .0)
 
 -- ---- the year of a day
 

@@ -3,10 +3,9 @@ use mathlib.Core.Path.{refl, _∙_}
 use Prim.Native.Nat.{_-_}
 use native.Mathlib.Omega.{arith}
 use borrow.Author.Tests.{eq-eqb, ne-eqb}
-use Rattle.rules.specs.Shapes.{shape, before}
-use Rattle.rules.proofs.Rows.{first-day-small, kin}
 use Rattle.rules.proofs.Bounds.{start-within}
 use Rattle.rules.proofs.Tables.{before-small}
+use Rattle.calendars.proofs.ByRow.{shaped}
 use Rattle.calendars.proofs.Dates.{before-is, len-is, in-places}
 use borrow.Author.Needs.{needs}
 use Rattle.calendars.proofs.month_in.Statement.{statement}
@@ -19,7 +18,7 @@ year-at-requires : tie.Need-year-at-requires
 year-at-requires c κs = search needs
 
 totals-of-requires : tie.Need-totals-of-requires
-totals-of-requires c κs = let s = c .before .before in kin (s .args .row .shape) (s .pre .0 .below) (s .pre .0 .common-is) (c .year-at .ensures)
+totals-of-requires c κs = search needs
 
 length-at-requires : tie.Need-length-at-requires
 length-at-requires c κs = search needs
@@ -35,8 +34,8 @@ add-start : tie.Need-add-start
 add-start c =
     let y = c .before .before .before .before .before in
     let s = y .before .before in
-    let r = s .pre .0 in
-    omega (arith, r .day-is, first-day-small (s .args .c) (r .below), y .year-at .ensures .begins, start-within (s .args .c) (r .below) (r .known) (s .args .i), s .pre .1)
+    let p = s .pre .0 in
+    omega (arith, p .first-day, y .year-at .ensures .begins, start-within (shaped (s .args .row) p) (s .args .i), s .pre .1)
 
 sub-days-before : tie.Need-sub-days-before
 sub-days-before c = search needs
@@ -46,15 +45,15 @@ days-before-requires c κs =
     let l = c .before .before .before in
     let y = l .before .before in
     let s = y .before .before in
-    let m = in-places (y .year-at .result .shape) (s .args .month) (y .year-at .ensures .small) (omega (arith, y .before .if1 .left)) (λ e. c .before .before .if2 .left (l .length-at .ensures ∙ e)) in
+    let m = in-places (y .year-at .result .shape) (s .args .month) (y .year-at .ensures .kin .small) (omega (arith, y .before .if1 .left)) (λ e. c .before .before .if2 .left (l .length-at .ensures ∙ e)) in
     (l .before .totals-of .ensures, omega arith)
 
 add-start-2 : tie.Need-add-start-2
 add-start-2 c =
     let y = c .before .before .before .before .before .before in
     let s = y .before .before in
-    let r = s .pre .0 in
-    omega (arith, r .day-is, first-day-small (s .args .c) (r .below), y .year-at .ensures .begins, start-within (s .args .c) (r .below) (r .known) (s .args .i), s .pre .1, c .days-before .ensures, before-small (y .year-at .result .shape) (s .args .month - 1) (y .year-at .ensures .small))
+    let p = s .pre .0 in
+    omega (arith, p .first-day, y .year-at .ensures .begins, start-within (shaped (s .args .row) p) (s .args .i), s .pre .1, c .days-before .ensures, before-small (y .year-at .result .shape) (s .args .month - 1) (y .year-at .ensures .kin .small))
 
 returns-3 : tie.Need-returns-3
 returns-3 c =
@@ -69,7 +68,6 @@ returns-3 c =
       before-is (y .year-at .ensures) (s .args .month - 1),
       ← c .days-before .ensures,
       ← y .year-at .ensures .begins,
-      ← s .pre .0 .day-is,
     ) refl
 
 pub month-in-spec : {M : Type 1} → statement M

@@ -2,7 +2,7 @@
 use mathlib.Core.Path.{ap, _∙_}
 use Rattle.hebrew.specs.Hebrew.{moonDay, moonHour, fourth, newYear}
 use Rattle.hebrew.proofs.Bounds.{moon-closed}
-use Rattle.rules.proofs.HebrewYears.{leap-now, leap-last}
+use Rattle.hebrew.proofs.Months.{leap-left, before-left}
 use borrow.Author.Needs.{needs}
 use Rattle.calendars.proofs.hebrew_year.new_year.Statement.{statement}
 use Rattle.calendars.proofs.hebrew_year.new_year.Tie as tie
@@ -38,7 +38,7 @@ returns : tie.Need-returns
 unfolding newYear moonDay moonHour
 returns c =
     let s = c .before .before in
-    rw (leap-now (s .args .y) (s .pre .0), leap-last (s .args .y) (s .pre .0), moon-closed (s .args .y) (s .pre .0)) (c .fourth-day .ensures ∙ ap fourth (c .before .moved-by .ensures .0))
+    rw (leap-left (s .args .y) (s .pre .0), before-left (s .args .y) (s .pre .0), moon-closed (s .args .y) (s .pre .0)) (c .fourth-day .ensures ∙ ap fourth (c .before .moved-by .ensures .0))
 
 pub new-year-spec : {M : Type 1} → statement M
 new-year-spec =

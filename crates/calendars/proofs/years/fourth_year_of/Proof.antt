@@ -1,6 +1,5 @@
 -- `calendars::years::fourth_year_of` meets its contract.
-use native.Mathlib.Omega.{arith}
-use Rattle.rules.proofs.Starts.{fourth-in, fourth-small}
+use Rattle.rules.proofs.Years.{fourth-in}
 use borrow.Author.Needs.{needs}
 use Rattle.calendars.proofs.years.fourth_year_of.Statement.{statement}
 use Rattle.calendars.proofs.years.fourth_year_of.Tie as tie
@@ -9,7 +8,7 @@ mul-place : tie.Need-mul-place
 mul-place c = search needs
 
 sub-place : tie.Need-sub-place
-sub-place c = omega (arith, fourth-small (c .args .c) (c .pre .0) (c .pre .1))
+sub-place c = search needs
 
 add-place : tie.Need-add-place
 add-place c = search needs
@@ -18,7 +17,9 @@ fourth-year-requires : tie.Need-fourth-year-requires
 fourth-year-requires c κs = search needs
 
 returns : tie.Need-returns
-returns c = let s = c .before in record { inside = rw (s .pre .2) (fourth-in (s .args .c) (s .pre .0) (s .pre .1) (s .args .n)); year = c .fourth-year .ensures }
+returns c =
+    let s = c .before in
+    record { inside = fourth-in (s .args .phase) (s .args .s) (s .pre .0) (s .pre .1) (s .args .n); year = c .fourth-year .ensures }
 
 pub fourth-year-of-spec : {M : Type 1} → statement M
 fourth-year-of-spec =

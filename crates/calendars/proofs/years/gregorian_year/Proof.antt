@@ -1,6 +1,8 @@
 -- `calendars::years::gregorian_year` meets its contract.
 use mathlib.Core.Path.{sym, _∙_}
-use Rattle.rules.proofs.Gregorian.{from4800, gregorian-leap, gregorian-common}
+use native.Mathlib.Omega.{arith}
+use Rattle.rules.proofs.Years.{in-leap-year, in-common-year}
+use Rattle.rules.proofs.Gregorian.{centuryDays, century-days, days-room, gregorian-year}
 use borrow.Author.Needs.{needs}
 use Rattle.calendars.proofs.years.gregorian_year.Statement.{statement}
 use Rattle.calendars.proofs.years.gregorian_year.Tie as tie
@@ -30,18 +32,28 @@ sub-start : tie.Need-sub-start
 sub-start c = search needs
 
 sub-start-2 : tie.Need-sub-start-2
-sub-start-2 c = search needs
+unfolding centuryDays
+sub-start-2 c = omega (arith, c .pre .1, century-days (c .args .offset), days-room (c .args .offset) (c .args .s) (c .pre .2) (c .args .i))
 
 century-leap-requires : tie.Need-century-leap-requires
 century-leap-requires c κs = search needs
 
+add-t18 : tie.Need-add-t18
+add-t18 c = search needs
+
 returns : tie.Need-returns
-unfolding from4800
-returns c = gregorian-leap (c .before .before .args .i) (sym (c .before .century-leap .ensures) ∙ c .if1 .taken)
+unfolding centuryDays
+returns c =
+    let s = c .before .before in
+    let y = gregorian-year (s .args .offset) (s .args .s) (s .pre .2) (s .args .i) in
+    rw (s .pre .1 ∙ century-days (s .args .offset)) (in-leap-year (s .pre .2) (sym (c .before .century-leap .ensures) ∙ c .if1 .taken) y)
 
 returns-2 : tie.Need-returns-2
-unfolding from4800
-returns-2 c = gregorian-common (c .before .before .args .i) (sym (c .before .century-leap .ensures) ∙ c .if1 .left)
+unfolding centuryDays
+returns-2 c =
+    let s = c .before .before in
+    let y = gregorian-year (s .args .offset) (s .args .s) (s .pre .2) (s .args .i) in
+    rw (s .pre .1 ∙ century-days (s .args .offset)) (in-common-year (s .pre .2) (sym (c .before .century-leap .ensures) ∙ c .if1 .left) y)
 
 pub gregorian-year-spec : {M : Type 1} → statement M
 gregorian-year-spec =
@@ -57,5 +69,6 @@ gregorian-year-spec =
     sub-start
     sub-start-2
     century-leap-requires
+    add-t18
     returns
     returns-2)

@@ -1,5 +1,5 @@
 -- `calendars::years::islamic_year_of` meets its contract.
-use Rattle.rules.proofs.Starts.{islamic-in}
+use Rattle.rules.proofs.Years.{islamic-in}
 use borrow.Author.Needs.{needs}
 use Rattle.calendars.proofs.years.islamic_year_of.Statement.{statement}
 use Rattle.calendars.proofs.years.islamic_year_of.Tie as tie
@@ -14,7 +14,7 @@ islamic-year-requires : tie.Need-islamic-year-requires
 islamic-year-requires c κs = search needs
 
 returns : tie.Need-returns
-returns c = let s = c .before in record { inside = islamic-in (s .args .c) (s .pre .0) (s .pre .1) (s .args .n); year = c .islamic-year .ensures }
+returns c = let s = c .before in record { inside = islamic-in (s .args .s) (s .pre .0) (s .args .n); year = c .islamic-year .ensures }
 
 pub islamic-year-of-spec : {M : Type 1} → statement M
 islamic-year-of-spec = tie.close (tie.spec mul-place add-place islamic-year-requires returns)

@@ -1,49 +1,71 @@
--- `calendars::years::year_at` meets its contract: by the kind of leap years.
-use mathlib.Core.Path.{sym, _∙_}
-use native.Mathlib.Omega.{arith}
-use Rattle.rules.proofs.Rows.{rule-2, rule-4}
+-- `calendars::years::year_at` meets its contract: by the leap rule.
+use mathlib.Core.Path.{_≡_}
 use borrow.Author.Needs.{needs}
 use Rattle.calendars.proofs.years.year_at.Statement.{statement}
 use Rattle.calendars.proofs.years.year_at.Tie as tie
 
+enum-told : tie.Need-enum-told
+enum-told c = search needs
+
 plain-year-requires : tie.Need-plain-year-requires
-plain-year-requires c κs = search needs
+plain-year-requires c κs = let s = c .before .before in (rw (c .enum-told .given .1) at (s .pre .0), s .pre .1)
+
+enum-known-rule : tie.Need-enum-known-rule
+enum-known-rule c = search needs
 
 fourth-year-requires : tie.Need-fourth-year-requires
-fourth-year-requires c κs = search needs
+fourth-year-requires c κs = let s = c .before .before .before in let f = rw (c .before .rule .given .1) at (s .pre .0) in (f .0, f .1, s .pre .1)
+
+enum-known-rule-2 : tie.Need-enum-known-rule-2
+enum-known-rule-2 c = search needs
 
 gregorian-year-requires : tie.Need-gregorian-year-requires
-gregorian-year-requires c κs = search needs
+gregorian-year-requires c κs = let s = c .before .before .before in let f = rw (c .before .rule2 .given .1) at (s .pre .0) in (f .0, f .1, f .2, s .pre .1)
+
+enum-told-2 : tie.Need-enum-told-2
+enum-told-2 c = search needs
 
 islamic-year-requires : tie.Need-islamic-year-requires
-islamic-year-requires c κs = search needs
+islamic-year-requires c κs = let s = c .before .before in (rw (c .enum-told2 .given .1) at (s .pre .0), s .pre .1)
+
+enum-told-3 : tie.Need-enum-told-3
+enum-told-3 c = search needs
 
 year-at-requires : tie.Need-year-at-requires
 year-at-requires c κs = search needs
 
 returns : tie.Need-returns
-returns c = search needs
+returns c = rw (c .before .enum-told .given .1) (c .plain-year .ensures)
 
 returns-2 : tie.Need-returns-2
-returns-2 c = search needs
+returns-2 c = rw (c .before .before .rule .given .1) (c .fourth-year .ensures)
 
 returns-3 : tie.Need-returns-3
-returns-3 c = let s = c .before .before in rw (rule-2 (s .args .c) (s .pre .0 .below) (sym (s .pre .0 .kind-is) ∙ c .before .match .keys3)) (c .gregorian-year .ensures)
+returns-3 c = rw (c .before .before .rule2 .given .1) (c .gregorian-year .ensures)
 
 returns-4 : tie.Need-returns-4
-returns-4 c = search needs
+returns-4 c = rw (c .before .enum-told2 .given .1) (c .islamic-year .ensures)
 
 returns-5 : tie.Need-returns-5
-returns-5 c = let s = c .before .before in rw (rule-4 (s .args .c) (s .pre .0 .below) (s .pre .0 .known) (omega (arith, c .before .match .rest, s .pre .0 .kind-is))) (c .year-at .ensures)
+returns-5 c =
+    let s = c .before .before .before in
+    let e = c .before .enum-told3 .given .1 in
+    let f : s .args .s ≡ 15 = rw e at (s .pre .0) in
+    rw (e, f) (c .year-at .ensures)
 
 pub year-at-spec : {M : Type 1} → statement M
 year-at-spec =
     tie.close
     (tie.spec
+    enum-told
     plain-year-requires
+    enum-known-rule
     fourth-year-requires
+    enum-known-rule-2
     gregorian-year-requires
+    enum-told-2
     islamic-year-requires
+    enum-told-3
     year-at-requires
     returns
     returns-2

@@ -1,0 +1,195 @@
+-- What the answers of a calendar have to do with counting and with each other, for any calendar in which every year has days: counting from the first day
+-- reaches the date, each way undoes the other, and dates in order have days in order.
+use mathlib.Core.Path.{_≡_, refl, sym, ap, _∙_}
+use mathlib.Core.Bool.{Bool, true, false, cond, _||_}
+use mathlib.Core.Logic.{_↔_}
+use mathlib.Core.List.{List}
+use Prim.Native.Nat.{ℕ, suc, _-_, _≤_, _<_}
+use native.Mathlib.Omega.{arith}
+use lib.Dec.{eqb, ltb}
+use lib.IntN.{ℤ}
+use lib.ListN.{length, List·getD-eq-default}
+use lib.Signed.{ltZ}
+use borrow.Author.Tests.{eqb-false, eq-eqb, ltb-true, ltb-false, lt-ltb, le-ltb, ne-eqb}
+use Rattle.counting.specs.Calendar.{total, Date, Valid, len, firstFrom, newYear, next, dateAt, Before}
+use Rattle.counting.specs.Calendar.Before.{by-year as before-by-year, by-month as before-by-month, by-day as before-by-day}
+use Rattle.counting.specs.Years.{yearAt, yearsFrom}
+use Rattle.counting.specs.Answers.{Calendar, years, DayAnswer, lastDay, lastYear, yearOut, lengthIn, monthZero, noDaysThatYear, noMonth, noDay, dayOut, dayNumber, dateOn, dated, noDayAnswer, noDateAnswer, dayFor, dateFor}
+use Rattle.counting.specs.Order.{Earlier}
+use Rattle.counting.specs.Order.Earlier.{by-year, by-month, by-day}
+use Rattle.basics.proofs.Cases.{cond-elim, neither}
+use Rattle.counting.proofs.Signs.{year-back, place-back, not-before, order-kept}
+use Rattle.counting.proofs.Counting.{date-is, counted, orders-agree}
+
+-- the date, with its year counted from the first
+abbrev pub counting : Calendar → ℤ → ℕ → ℕ → Date
+counting K y m d = record { year = yearsFrom (K .firstYear) y; month = m; day = d }
+
+-- a date that has a day, and the day
+pub record Accepted (K : Calendar) (y : ℤ) (m d n : ℕ) : Type 0 where
+  pub from-first : ltZ y (K .firstYear) ≡ false
+  pub to-last : ltZ lastYear y ≡ false
+  pub valid : Valid (years K) (counting K y m d)
+  pub number : dayNumber K y m d ≡ n
+  pub small : n ≤ lastDay
+
+-- the lengths of a year from the first on
+pub lengths-at : (K : Calendar) (y : ℤ) → ltZ y (K .firstYear) ≡ false → K .lengths y ≡ years K (yearsFrom (K .firstYear) y)
+unfolding years
+lengths-at K y h = ap (K .lengths) (sym (year-back (K .firstYear) y h))
+
+-- a position above the positions has no days, so that two of the three conditions would do
+pub no-month : (K : Calendar) (y : ℤ) (m : ℕ) → noMonth K y m ≡ (monthZero m || noDaysThatYear K y m)
+no-month K y m = go (eqb m 0) refl (ltb (length (K .lengths y)) m) refl
+  where
+    go : (z : Bool) → eqb m 0 ≡ z → (t : Bool) → ltb (length (K .lengths y)) m ≡ t → (z || t || eqb (lengthIn K y m) 0) ≡ (z || eqb (lengthIn K y m) 0)
+    go true e t h = refl
+    go false e false h = refl
+    go false e true h =
+        let l = ltb-true (length (K .lengths y)) m h in
+        sym (eq-eqb (lengthIn K y m) 0 (List·getD-eq-default (K .lengths y) 0 {n = m - 1} (omega arith)))
+
+-- where a choice is answered 0, a refusal was not chosen
+passed : (t : Bool) (k : ℕ) (b : DayAnswer) → cond t (noDayAnswer (suc k)) b .number ≡ 0 → (t ≡ false) × (b .number ≡ 0)
+passed true k b e = absurd (omega arith)
+passed false k b e = (refl, e)
+
+-- date to day answers no number above 5
+pub day-five : (K : Calendar) (y : ℤ) (m d : ℕ) → dayFor K y m d .number ≤ 5
+unfolding dayFor
+day-five K y m d =
+    cond-elim Low (yearOut K y) _ _ (λ e. omega arith)
+    (λ e. cond-elim Low (noMonth K y m) _ _ (λ e. omega arith)
+    (λ e. cond-elim Low (noDay K y m d) _ _ (λ e. omega arith)
+    (λ e. cond-elim Low (dayOut K (dayNumber K y m d)) _ _ (λ e. omega arith) (λ e. omega arith))))
+  where
+    Low : DayAnswer → Type 0
+    Low a = a .number ≤ 5
+
+module _ (K : Calendar) where
+  pub accepted : (y : ℤ) (m d : ℕ) → dayFor K y m d .number ≡ 0 → Accepted K y m d (dayFor K y m d .day)
+  unfolding dayFor
+  accepted y m d e =
+      let R : DayAnswer = record { number = 0; day = dayNumber K y m d } in
+      let T : DayAnswer = cond (dayOut K (dayNumber K y m d)) (noDayAnswer 5) R in
+      let S : DayAnswer = cond (noDay K y m d) (noDayAnswer 4) T in
+      let q = passed (yearOut K y) 1 (cond (noMonth K y m) (noDayAnswer 3) S) e in
+      let r = passed (noMonth K y m) 2 S (q .1) in
+      let s = passed (noDay K y m d) 3 T (r .1) in
+      let t = passed (dayOut K (dayNumber K y m d)) 4 R (s .1) in
+      let Y = neither (ltZ y (K .firstYear)) (ltZ lastYear y) (q .0) in
+      let M = neither (monthZero m) (noDaysThatYear K y m) (sym (no-month K y m) ∙ r .0) in
+      let D = neither (eqb d 0) (ltb (lengthIn K y m) d) (s .0) in
+      let N = neither (ltb lastDay (dayNumber K y m d)) (ltb (dayNumber K y m d) (K .firstDay)) (t .0) in
+      let l : len (K .lengths y) m ≡ len (years K (yearsFrom (K .firstYear) y)) m = ap (λ (ls : List ℕ). len ls m) (lengths-at K y (Y .0)) in
+      rw (q .0, r .0, s .0, t .0)
+      (record {
+        from-first = Y .0;
+        to-last = Y .1;
+        valid =
+            record {
+              month-from-1 = omega (arith, eqb-false m 0 (M .0));
+              day-from-1 = omega (arith, eqb-false d 0 (D .0));
+              day-in-month = omega (arith, ltb-false (lengthIn K y m) d (D .1), l);
+            };
+        number = refl;
+        small = ltb-false lastDay (dayNumber K y m d) (N .0);
+      })
+
+  pub accept : (y : ℤ) (m d n : ℕ) → Accepted K y m d n → dayFor K y m d ≡ record { number = 0; day = n }
+  unfolding dayFor
+  accept y m d n a =
+      let l : lengthIn K y m ≡ len (years K (yearsFrom (K .firstYear) y)) m = ap (λ (ls : List ℕ). len ls m) (lengths-at K y (a .from-first)) in
+      let v = a .valid in
+      rw (
+        no-month K y m,
+        a .from-first,
+        a .to-last,
+        ne-eqb m 0 (omega (arith, v .month-from-1)),
+        ne-eqb (lengthIn K y m) 0 (omega (arith, v .day-from-1, v .day-in-month)),
+        ne-eqb d 0 (omega (arith, v .day-from-1)),
+        le-ltb (lengthIn K y m) d (omega (arith, v .day-in-month)),
+        le-ltb lastDay (dayNumber K y m d) (omega (arith, a .number, a .small)),
+        le-ltb (dayNumber K y m d) (K .firstDay) (omega arith),
+        a .number,
+      ) refl
+
+  -- a day that is answered
+  pub answered : (n : ℕ) → K .firstDay ≤ n → n ≤ lastDay → dateFor K n ≡ dated K (dateOn K n)
+  unfolding dateFor
+  answered n f k = rw (le-ltb lastDay n k, le-ltb n (K .firstDay) f) refl
+
+  pub given-date : (n : ℕ) → dateFor K n .number ≡ 0 → (K .firstDay ≤ n) × (n ≤ lastDay)
+  unfolding dateFor
+  given-date n e =
+      let q = gone (dayOut K n) e in
+      let N = neither (ltb lastDay n) (ltb n (K .firstDay)) q in
+      (ltb-false n (K .firstDay) (N .1), ltb-false lastDay n (N .0))
+    where
+      gone : (t : Bool) → cond t (noDateAnswer 5) (dated K (dateOn K n)) .number ≡ 0 → t ≡ false
+      gone true e = absurd (omega arith)
+      gone false e = refl
+
+  -- the day after has the date that follows
+  pub next-date : (n : ℕ) → K .firstDay ≤ n → dateOn K (suc n) ≡ next (years K) (dateOn K n)
+  unfolding dateAt
+  next-date n h = let e : suc n - K .firstDay ≡ suc (n - K .firstDay) = omega arith in ap (dateAt (years K)) e
+
+  -- the first day is 1/1 of the first year, where its first position has days
+  pub first-date : firstFrom 1 (years K 0) ≡ 1 → dateOn K (K .firstDay) ≡ record { year = 0; month = 1; day = 1 }
+  unfolding dateAt newYear
+  first-date o = let e : K .firstDay - K .firstDay ≡ 0 = omega arith in rw (e, o) refl
+
+-- every year has days
+module _ (K : Calendar) (has-days : (i : ℕ) → 1 ≤ total (years K i)) where
+  -- counting from the first day reaches the date
+  pub reached : (y : ℤ) (m d n : ℕ) → Accepted K y m d n → (K .firstDay ≤ n) × (dateOn K n ≡ counting K y m d)
+  reached y m d n a =
+      (omega (arith, a .number), date-is (years K) has-days (n - K .firstDay) (counting K y m d) (a .valid) (omega (arith, a .number)))
+
+  -- so its day has that date
+  pub there-and-back : (y : ℤ) (m d n : ℕ) → Accepted K y m d n → dateFor K n ≡ record { number = 0; year = y; month = m; day = d }
+  there-and-back y m d n a =
+      let r = reached y m d n a in
+      answered K n (r .0) (a .small) ∙ rw (r .1, year-back (K .firstYear) y (a .from-first)) refl
+
+  -- and a day's date has that day, if its year is not above the last
+  pub back-and-there : (n : ℕ) → K .firstDay ≤ n → n ≤ lastDay → ltZ lastYear (dated K (dateOn K n) .year) ≡ false
+      → let x = dated K (dateOn K n) in Accepted K (x .year) (x .month) (x .day) n
+  back-and-there n f k l =
+      let D = dateOn K n in
+      let g = counted (years K) has-days (n - K .firstDay) in
+      let i = place-back (K .firstYear) (D .year) in
+      record { from-first = not-before (K .firstYear) (D .year); to-last = l; valid = rw i (g .0); number = rw i (omega (arith, g .1)); small = k }
+
+-- ---- order
+
+module _ (K : Calendar) (y : ℤ) (m d n : ℕ) (y′ : ℤ) (m′ d′ n′ : ℕ) (a : Accepted K y m d n) (a′ : Accepted K y′ m′ d′ n′) where
+  first : ℤ
+  first = K .firstYear
+
+  -- years in order are places in order
+  places : ltZ y y′ ≡ ltb (yearsFrom first y) (yearsFrom first y′)
+  unfolding first
+  places = rw (year-back first y (a .from-first), year-back first y′ (a′ .from-first)) at (order-kept first (yearsFrom first y) (yearsFrom first y′))
+
+  to : Earlier y m d y′ m′ d′ → Before (counting K y m d) (counting K y′ m′ d′)
+  unfolding first
+  to (by-year h) = before-by-year (ltb-true (yearsFrom first y) (yearsFrom first y′) (sym places ∙ h))
+  to (by-month e h) = before-by-month (ap (yearsFrom first) e) h
+  to (by-day e f h) = before-by-day (ap (yearsFrom first) e) f h
+
+  same : yearsFrom first y ≡ yearsFrom first y′ → y ≡ y′
+  unfolding first
+  same e = sym (year-back first y (a .from-first)) ∙ ap (yearAt first) e ∙ year-back first y′ (a′ .from-first)
+
+  from : Before (counting K y m d) (counting K y′ m′ d′) → Earlier y m d y′ m′ d′
+  unfolding first
+  from (before-by-year h) = by-year (places ∙ lt-ltb (yearsFrom first y) (yearsFrom first y′) h)
+  from (before-by-month e h) = by-month (same e) h
+  from (before-by-day e f h) = by-day (same e) f h
+
+  pub ordered : Earlier y m d y′ m′ d′ ↔ (n < n′)
+  ordered =
+      let o = orders-agree (years K) (counting K y m d) (counting K y′ m′ d′) (a .valid) (a′ .valid) in
+      ((λ e. omega (arith, o .0 (to e), a .number, a′ .number)), λ h. from (o .1 (omega (arith, a .number, a′ .number))))

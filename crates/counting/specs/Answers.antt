@@ -1,0 +1,124 @@
+-- A calendar, and what it answers, by document 01's table "Answer numbers": date to day tries 2, 3, 4, 5; day to date 5; the length of a position 2, 3.
+-- (1, a number that is no calendar's, is tried where calendars are looked up by number.) A refusal has its number, and 0 in all other fields.
+use Prim.Native.Nat.{ℕ, _+_, _-_, _≤_}
+use mathlib.Core.Path.{_≡_}
+use mathlib.Core.Bool.{Bool, false, cond, _||_}
+use mathlib.Core.List.{List}
+use lib.Dec.{eqb, ltb}
+use lib.IntN.{ℤ, pos}
+use lib.ListN.{length}
+use lib.Signed.{ltZ}
+use Rattle.counting.specs.Calendar.{total, len, dayOf, dateAt, Date}
+use Rattle.counting.specs.Years.{yearAt, yearsFrom}
+
+-- a calendar: its first year, the day of 1/1 of that year, and the lengths of the positions of each year
+pub record Calendar : Type 0 where
+  pub firstYear : ℤ
+  pub firstDay : ℕ
+  pub lengths : ℤ → List ℕ
+
+-- the lengths of its years, counted from its first
+unfoldable pub years : Calendar → ℕ → List ℕ
+years K i = K .lengths (yearAt (K .firstYear) i)
+
+pub record DayAnswer : Type 0 where
+  pub number : ℕ
+  pub day : ℕ
+
+pub record DateAnswer : Type 0 where
+  pub number : ℕ
+  pub year : ℤ
+  pub month : ℕ
+  pub day : ℕ
+
+pub record LengthAnswer : Type 0 where
+  pub number : ℕ
+  pub days : ℕ
+
+abbrev pub lastDay : ℕ
+lastDay = 5373484
+
+abbrev pub lastYear : ℤ
+lastYear = pos 20000
+
+-- ---- when a number applies
+
+-- 2: year below the calendar's first or above 20,000
+abbrev pub yearOut : Calendar → ℤ → Bool
+yearOut K y = ltZ y (K .firstYear) || ltZ lastYear y
+
+-- the length of position m of year y; 0 past the last
+abbrev pub lengthIn : Calendar → ℤ → ℕ → ℕ
+lengthIn K y m = len (K .lengths y) m
+
+-- 3: month 0,
+abbrev pub monthZero : ℕ → Bool
+monthZero m = eqb m 0
+
+-- above the positions,
+abbrev pub abovePositions : Calendar → ℤ → ℕ → Bool
+abovePositions K y m = ltb (length (K .lengths y)) m
+
+-- or of no days that year
+abbrev pub noDaysThatYear : Calendar → ℤ → ℕ → Bool
+noDaysThatYear K y m = eqb (lengthIn K y m) 0
+
+abbrev pub noMonth : Calendar → ℤ → ℕ → Bool
+noMonth K y m = monthZero m || abovePositions K y m || noDaysThatYear K y m
+
+-- 4: day 0 or beyond the month
+abbrev pub noDay : Calendar → ℤ → ℕ → ℕ → Bool
+noDay K y m d = eqb d 0 || ltb (lengthIn K y m) d
+
+-- 5: day above 5,373,484, or before the calendar's first day
+abbrev pub dayOut : Calendar → ℕ → Bool
+dayOut K n = ltb lastDay n || ltb n (K .firstDay)
+
+-- ---- date to day
+
+-- the day of a date that the calendar has
+abbrev pub dayNumber : Calendar → ℤ → ℕ → ℕ → ℕ
+dayNumber K y m d = K .firstDay + dayOf (years K) (record { year = yearsFrom (K .firstYear) y; month = m; day = d })
+
+abbrev pub noDayAnswer : ℕ → DayAnswer
+noDayAnswer k = record { number = k; day = 0 }
+
+unfoldable pub dayFor : Calendar → ℤ → ℕ → ℕ → DayAnswer
+dayFor K y m d =
+    cond (yearOut K y) (noDayAnswer 2)
+    (cond (noMonth K y m) (noDayAnswer 3)
+    (cond (noDay K y m d) (noDayAnswer 4)
+    (cond (dayOut K (dayNumber K y m d)) (noDayAnswer 5)
+    (record { number = 0; day = dayNumber K y m d }))))
+
+-- ---- day to date: the date that counting one by one from the calendar's first day reaches
+
+abbrev pub dateOn : Calendar → ℕ → Date
+dateOn K n = dateAt (years K) (n - K .firstDay)
+
+-- a date whose year is counted from the first, as an answer
+abbrev pub dated : Calendar → Date → DateAnswer
+dated K D = record { number = 0; year = yearAt (K .firstYear) (D .year); month = D .month; day = D .day }
+
+abbrev pub noDateAnswer : ℕ → DateAnswer
+noDateAnswer k = record { number = k; year = pos 0; month = 0; day = 0 }
+
+unfoldable pub dateFor : Calendar → ℕ → DateAnswer
+dateFor K n = cond (dayOut K n) (noDateAnswer 5) (dated K (dateOn K n))
+
+-- ---- the length of a position in a year
+
+abbrev pub noLengthAnswer : ℕ → LengthAnswer
+noLengthAnswer k = record { number = k; days = 0 }
+
+unfoldable pub lengthFor : Calendar → ℤ → ℕ → LengthAnswer
+lengthFor K y m =
+    cond (yearOut K y) (noLengthAnswer 2)
+    (cond (noMonth K y m) (noLengthAnswer 3)
+    (record { number = 0; days = lengthIn K y m }))
+
+-- ---- what the theorems ask of a calendar: every year has days, and no day up to the last is in a year above 20,000
+
+pub record Proper (K : Calendar) : Type 0 where
+  pub has-days : (i : ℕ) → 1 ≤ total (years K i)
+  pub in-time : (n : ℕ) → n ≤ lastDay → ltZ lastYear (dated K (dateOn K n) .year) ≡ false
