@@ -17,13 +17,13 @@ use Rattle.basics.proofs.Cases.{neither, cond-elim}
 use Rattle.counting.proofs.Rounds.{lengths-at, no-month}
 use Rattle.counting.proofs.Signs.{years-small}
 use Rattle.counting.proofs.Totals.{getD-le-total}
-use Rattle.rules.specs.Calendars.{calendar}
-use Rattle.rules.specs.Answers.{ofListed, dayAnswer, lengthAnswer}
-use Rattle.rules.proofs.Listed.{Sound, listed-sound}
-use Rattle.rules.proofs.Bounds.{start-within, position-within, year-days}
-use Rattle.answers.specs.Number.{numberOf}
-use Rattle.answers.specs.declared.Refusal.{Refusal}
-use Rattle.answers.proofs.Claims.{not-zero}
+use Rattle.calendar_rules.specs.Calendars.{calendar}
+use Rattle.calendar_rules.specs.Answers.{ofListed, dayAnswer, lengthAnswer}
+use Rattle.calendar_rules.proofs.Listed.{Sound, listed-sound}
+use Rattle.calendar_rules.proofs.Bounds.{start-within, position-within, year-days}
+use Rattle.refusals.specs.Number.{numberOf}
+use Rattle.refusals.specs.declared.Refusal.{Refusal}
+use Rattle.refusals.proofs.Claims.{not-zero}
 use Rattle.calendars.specs.Parts.{MonthAnswer, noMonthAnswer, monthIn, monthBy, monthAnswer, dayIn}
 
 -- an answer from that of the position

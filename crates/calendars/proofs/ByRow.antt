@@ -4,11 +4,11 @@ use mathlib.Core.Option.{Option}
 use Prim.Native.Nat.{ℕ}
 use lib.IntN.{ℤ}
 use Rattle.counting.specs.Answers.{Calendar, years, dateFor}
-use Rattle.rules.specs.Calendars.{calendar, Listed}
-use Rattle.rules.specs.Shapes.{centuries}
-use Rattle.rules.specs.Answers.{dateAnswer}
-use Rattle.rules.proofs.Listed.{listed-sound}
-use Rattle.rules.proofs.Bounds.{Shaped, plain-shaped, fourth-shaped, leap-by-shaped, islamic-shaped, hebrew-shaped}
+use Rattle.calendar_rules.specs.Calendars.{calendar, Listed}
+use Rattle.calendar_rules.specs.Shapes.{centuries}
+use Rattle.calendar_rules.specs.Answers.{dateAnswer}
+use Rattle.calendar_rules.proofs.Listed.{listed-sound}
+use Rattle.calendar_rules.proofs.Bounds.{Shaped, plain-shaped, fourth-shaped, leap-by-shaped, islamic-shaped, hebrew-shaped}
 use Rattle.calendars.specs.declared.rows.LeapRule.{LeapRule}
 use Rattle.calendars.specs.declared.rows.LeapRule.the-variants as R
 use Rattle.calendars.specs.declared.rows.Row.{Row}

@@ -9,9 +9,9 @@ use lib.ListN.{take, getD, List·getD-eq-default}
 use Rattle.counting.specs.Calendar.{total, start, len, Date, Valid, dayOf, dateAt}
 use Rattle.counting.specs.Years.{yearAt}
 use Rattle.counting.proofs.Counting.{date-is}
-use Rattle.rules.specs.Shapes.{shape, before, places, YearIs}
-use Rattle.rules.proofs.Tables.{before-next, few}
-use Rattle.rules.proofs.Bounds.{Shaped, has-days, year-within}
+use Rattle.calendar_rules.specs.Shapes.{shape, before, places, YearIs}
+use Rattle.calendar_rules.proofs.Tables.{before-next, few}
+use Rattle.calendar_rules.proofs.Bounds.{Shaped, has-days, year-within}
 use Rattle.calendars.specs.Positions.{InPosition}
 use Rattle.calendars.specs.Parts.{DateIs}
 use Rattle.calendars.specs.Years.{FoundIs}

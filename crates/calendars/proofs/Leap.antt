@@ -3,8 +3,8 @@ use mathlib.Core.Path.{_≡_, ap, _∙_}
 use Prim.Native.Nat.{ℕ, _+_, _-_, _*_, _/_, _≤_, _<_}
 use native.Mathlib.Decide.{decLt}
 use native.Mathlib.Omega.{arith}
-use Rattle.rules.specs.Shapes.{Kin, TotalsOf, WordsOf}
-use Rattle.rules.proofs.Tables.{word-small}
+use Rattle.calendar_rules.specs.Shapes.{Kin, TotalsOf, WordsOf}
+use Rattle.calendar_rules.proofs.Tables.{word-small}
 
 plus-none : (a x k : ℕ) → k ≡ 0 → x + k * a ≡ x
 plus-none a x k e = ap (λ (n : ℕ). x + n * a) e ∙ omega arith

@@ -7,8 +7,8 @@ use native.Mathlib.Nat.{lt-of-mul-lt-mul-left}
 use lib.Dec.{leb}
 use borrow.Author.Tests.{leb-true, leb-false}
 use Rattle.counting.specs.Calendar.{total}
-use Rattle.rules.specs.Shapes.{shape, before, places, width}
-use Rattle.rules.proofs.Tables.{low, high, all-before, places-small}
+use Rattle.calendar_rules.specs.Shapes.{shape, before, places, width}
+use Rattle.calendar_rules.proofs.Tables.{low, high, all-before, places-small}
 use Rattle.calendars.specs.Positions.{Near, InPosition}
 
 -- the quotient by the width

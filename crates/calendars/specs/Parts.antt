@@ -11,8 +11,8 @@ use lib.Signed.{ltZ}
 use Rattle.counting.specs.Calendar.{total, start, len, dateAt}
 use Rattle.counting.specs.Years.{yearAt, yearsFrom}
 use Rattle.counting.specs.Answers.{years, DayAnswer, noDayAnswer, DateAnswer, noDateAnswer, lastYear, lastDay}
-use Rattle.rules.specs.Calendars.{calendar}
-use Rattle.rules.specs.Answers.{ofListed}
+use Rattle.calendar_rules.specs.Calendars.{calendar}
+use Rattle.calendar_rules.specs.Answers.{ofListed}
 
 -- a position: the day that it begins on, and its length
 pub record MonthAnswer : Type 0 where

@@ -1,6 +1,6 @@
 -- A day of a year and its position, both counted from 0.
 use Prim.Native.Nat.{ℕ, suc, _+_, _≤_, _<_}
-use Rattle.rules.specs.Shapes.{before, places}
+use Rattle.calendar_rules.specs.Shapes.{before, places}
 
 -- p is not past the position of the day, and at most two before it
 pub record Near (s day p : ℕ) : Type 0 where

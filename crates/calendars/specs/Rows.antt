@@ -6,8 +6,8 @@ use mathlib.Core.Option.{Option}
 use lib.Signed.{mag}
 use Rattle.counting.specs.Answers.{Calendar, years}
 use Rattle.hebrew.specs.Hebrew.{years as hebrewYears}
-use Rattle.rules.specs.Calendars.{calendar, Listed}
-use Rattle.rules.specs.Shapes.{Common, Alone, centuries, daysBelow, plainYears, fourthYears, leapByYears, islamicYears}
+use Rattle.calendar_rules.specs.Calendars.{calendar, Listed}
+use Rattle.calendar_rules.specs.Shapes.{Common, Alone, centuries, daysBelow, plainYears, fourthYears, leapByYears, islamicYears}
 use Rattle.calendars.specs.declared.rows.LeapRule.{LeapRule}
 use Rattle.calendars.specs.declared.rows.LeapRule.the-variants as R
 use Rattle.calendars.specs.declared.rows.Row.{Row}

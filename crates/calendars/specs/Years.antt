@@ -2,7 +2,7 @@
 use Prim.Native.Nat.{ℕ}
 use mathlib.Core.List.{List}
 use Rattle.counting.specs.Calendar.{InYear}
-use Rattle.rules.specs.Shapes.{YearIs}
+use Rattle.calendar_rules.specs.Shapes.{YearIs}
 
 -- in a calendar with the years L and the common shape a, day n from its first is in the year i years after its first, which begins there and has that shape
 pub record FoundIs (L : ℕ → List ℕ) (a n i from s : ℕ) : Type 0 where

@@ -8,7 +8,7 @@ ghost use Prim.Native.Nat.{_+_, _-_, _%_, _≤_, _<_};
 ghost use lib.ListN.{getD};
 ghost use Rattle.counting.specs.Calendar.{len};
 ghost use Rattle.hebrew.specs.Hebrew.{secondApplies, thirdApplies, moved, fourth, newYear, kinds, years};
-ghost use Rattle.rules.specs.Shapes.{YearIs};
+ghost use Rattle.calendar_rules.specs.Shapes.{YearIs};
 ghost use Rattle.calendars.specs.Years.{FoundIs};
 
 // The lengths of the positions: common deficient, regular, abundant, then leap deficient, regular, abundant.

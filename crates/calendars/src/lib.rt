@@ -1,5 +1,5 @@
 // The sixteen calendars: the day of a date, the date of a day, and the length of a position in a year.
-use answers::Refusal;
+use refusals::Refusal;
 use rows::Listing;
 use rows::Row;
 
@@ -10,7 +10,7 @@ mod years;
 
 ghost use mathlib.Core.Path.{_≡_};
 ghost use Prim.Native.Nat.{_≤_};
-ghost use Rattle.rules.specs.Answers.{dayAnswer, dateAnswer, lengthAnswer};
+ghost use Rattle.calendar_rules.specs.Answers.{dayAnswer, dateAnswer, lengthAnswer};
 ghost use Rattle.calendars.specs.Paper.{dayPaper, datePaper, lengthPaper, monthPaper};
 ghost use Rattle.calendars.specs.Parts.{monthIn, monthBy, monthAnswer, dayIn, DateIs, dateBy};
 ghost use Rattle.calendars.specs.Rows.{yearsOf, Proper};

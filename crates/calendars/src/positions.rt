@@ -5,7 +5,7 @@ ghost use mathlib.Core.Bool.{cond};
 ghost use Prim.Native.Nat.{suc, _*_, _≤_, _<_};
 ghost use lib.Dec.{leb};
 ghost use Rattle.counting.specs.Calendar.{total, len};
-ghost use Rattle.rules.specs.Shapes.{shape, before, places, Kin, TotalsOf, WordsOf};
+ghost use Rattle.calendar_rules.specs.Shapes.{shape, before, places, Kin, TotalsOf, WordsOf};
 ghost use Rattle.calendars.specs.Positions.{Near, InPosition};
 
 // The running totals of a shape: byte p of the words, counted from the low end, is what the days before position p + 1 are above base * p.

@@ -3,7 +3,7 @@ use crate::hebrew_year;
 use crate::rows::LeapRule;
 ghost use mathlib.Core.Path.{_≡_};
 ghost use Prim.Native.Nat.{_≤_, _<_};
-ghost use Rattle.rules.specs.Shapes.{Common, Alone, centuries, leapBy, daysBelow, plainYears, fourthYears, leapByYears, islamicYears, YearIs};
+ghost use Rattle.calendar_rules.specs.Shapes.{Common, Alone, centuries, leapBy, daysBelow, plainYears, fourthYears, leapByYears, islamicYears, YearIs};
 ghost use Rattle.calendars.specs.Years.{FoundIs};
 ghost use Rattle.calendars.specs.Rows.{yearsBy, Fits};
 

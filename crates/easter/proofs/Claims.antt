@@ -1,11 +1,11 @@
 -- What is promised of `easter::easter`, on one page. Its contract, for every calendar number and year: the answer r, in document 01's words by
--- `easterPaper` (specs/Paper.antt), is `easterAnswer` of crate easter_rule, the published rule. What follows of r, by that crate's claims:
+-- `easterPaper` (specs/Paper.antt), is `easterAnswer` of crate computus, the published rule. What follows of r, by that crate's claims:
 use mathlib.Core.Path.{_≡_}
 use Prim.Native.Nat.{ℕ}
 use lib.IntN.{ℤ}
-use Rattle.easter_rule.specs.Rule.{easterAnswer}
-use Rattle.easter_rule.specs.Feast.{Allowed, Feast}
-use Rattle.easter_rule.proofs.Claims as E
+use Rattle.computus.specs.Rule.{easterAnswer}
+use Rattle.computus.specs.Feast.{Allowed, Feast}
+use Rattle.computus.proofs.Claims as E
 use Rattle.easter.specs.Paper.{easterPaper}
 use Rattle.easter.specs.declared.EasterDate.{EasterDate}
 

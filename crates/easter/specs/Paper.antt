@@ -3,8 +3,8 @@ use Prim.Native.Nat.{ℕ}
 use mathlib.Core.Bool.{cond, _&&_}
 use lib.Dec.{leb}
 use lib.IntN.{ℤ, pos, negsuc}
-use Rattle.answers.specs.Number.{numberOf}
-use Rattle.easter_rule.specs.Rule.{EasterAnswer, refused}
+use Rattle.refusals.specs.Number.{numberOf}
+use Rattle.computus.specs.Rule.{EasterAnswer, refused}
 use Rattle.easter.specs.declared.MonthDay.{MonthDay}
 use Rattle.easter.specs.declared.EasterDate.{EasterDate}
 use Rattle.easter.specs.declared.EasterDate.the-variants.{On, Refused}

@@ -1,9 +1,9 @@
 // Easter in the Julian and the Gregorian calendar, for any calendar number and year.
 ghost use mathlib.Core.Path.{_≡_};
 ghost use Prim.Native.Nat.{_≤_, _<_};
-ghost use Rattle.easter_rule.specs.Rule.{quotientR, gregorianM, gregorianN, ordinary, dated, easterOf, inYears, julianEaster, gregorianEaster, easterAnswer};
+ghost use Rattle.computus.specs.Rule.{quotientR, gregorianM, gregorianN, ordinary, dated, easterOf, inYears, julianEaster, gregorianEaster, easterAnswer};
 ghost use Rattle.easter.specs.Paper.{datePaper, easterPaper, yearFrom};
-use answers::Refusal;
+use refusals::Refusal;
 
 pub struct MonthDay {
     pub month: u64,
@@ -96,7 +96,7 @@ fn quotient_r(s: u64) -> u64
     if s < 17 { 0 } else { (s - 17) / 25 }
 }
 
-// The date by the constants m and n of its calendar. The letters are those of the rule (crate easter_rule, specs/Rule.antt).
+// The date by the constants m and n of its calendar. The letters are those of the rule (crate computus, specs/Rule.antt).
 fn by_constants(m: u64, n: u64, year: u64) -> MonthDay
     requires { ⌜ (m < 30) × (n < 7) ⌝ }
     ensures { λ r. ⌜ datePaper r ≡ easterOf m n year ⌝ }

@@ -13,9 +13,9 @@ use Rattle.lines.specs.Fit.{first, peak, within, offset, offsetOf, passes, answ
 use Rattle.counting.specs.Answers.{years, dayFor}
 use Rattle.counting.proofs.Starts.{start-same}
 use Rattle.hebrew.proofs.Calendar.{start-is}
-use Rattle.rules.specs.Calendars.{hebrew, lookup, calendar}
-use Rattle.rules.specs.Answers.{dayAnswer}
-use Rattle.rules.proofs.Rows.{hebrew-row}
+use Rattle.calendar_rules.specs.Calendars.{hebrew, lookup, calendar}
+use Rattle.calendar_rules.specs.Answers.{dayAnswer}
+use Rattle.calendar_rules.proofs.Rows.{hebrew-row}
 use Rattle.examples.specs.Starred.{starred, AllAnswered}
 
 -- the days before a Hebrew year, from its first day by the rules

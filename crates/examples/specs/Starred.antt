@@ -1,12 +1,12 @@
 -- The worked examples that document 01 marks with a star ("Plates from the proof drawer"), as one table, over the definitions that the promises cite:
--- `dayAnswer` of crate rules for date to day, `fitOf` of crate lines for fitting.
+-- `dayAnswer` of crate calendar_rules for date to day, `fitOf` of crate lines for fitting.
 use mathlib.Core.Path.{_≡_}
 use mathlib.Core.List.{List, [], _∷_, _++_}
 use Prim.Native.Nat.{ℕ}
 use lib.IntN.{ℤ, pos, negsuc}
 use Rattle.lines.specs.Fit.{Answer, line, refused, fitOf}
 use Rattle.counting.specs.Answers.{DayAnswer, noDayAnswer}
-use Rattle.rules.specs.Answers.{dayAnswer}
+use Rattle.calendar_rules.specs.Answers.{dayAnswer}
 
 -- a question and its answer: the day of a date (calendar, year, month, day), or the line of a code
 pub data Example : Type 0 where

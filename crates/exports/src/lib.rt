@@ -1,6 +1,6 @@
 // The proved functions for C, C++ and Rust: numbers and slices only. The fields of an answer are packed into one number, so that no result buffer can be too short
 // (`specs/Packed.antt`). A slice passes as a pointer and then a length.
-use answers::Refusal;
+use refusals::Refusal;
 use calendars::Date;
 use calendars::Dated;
 use calendars::Day;
@@ -14,15 +14,15 @@ ghost use Prim.Native.Nat.{_+_, _*_, _^_, _<_};
 ghost use mathlib.Core.Bool.{false};
 ghost use lib.IntN.{negsuc};
 ghost use lib.Signed.{ltZ};
-ghost use Rattle.rules.specs.Answers.{dayAnswer, dateAnswer, lengthAnswer};
+ghost use Rattle.calendar_rules.specs.Answers.{dayAnswer, dateAnswer, lengthAnswer};
 ghost use Rattle.calendars.specs.Paper.{dayPaper, datePaper, lengthPaper};
-ghost use Rattle.answers.specs.Number.{numberOf};
+ghost use Rattle.refusals.specs.Number.{numberOf};
 ghost use Rattle.lines.specs.Fit.{fitOf};
 ghost use Rattle.lines.specs.Unfold.{unfoldNumber, unfoldBuffer};
-ghost use Rattle.easter_rule.specs.Rule.{easterAnswer};
+ghost use Rattle.computus.specs.Rule.{easterAnswer};
 ghost use Rattle.fitting.specs.Paper.{fitPaper, unfoldPaper};
 ghost use Rattle.easter.specs.Paper.{easterPaper};
-ghost use Rattle.frames.specs.Verdict.{verdictOf};
+ghost use Rattle.verdicts.specs.Verdict.{verdictOf};
 ghost use Rattle.exports.specs.Packed.{yearsOn, packedDay, packedDate, packedLength, packedEaster, packedFit, DateFits, EasterFits, FitFits};
 
 // A refusal's number as a field.
@@ -36,14 +36,14 @@ fn wide(number: u8) -> u64
 fn refused_32(why: Refusal) -> u64
     ensures { λ r. ⌜ r ≡ numberOf why * 2 ^ 32 ⌝ }
 {
-    wide(answers::number(why)) * 0x1_0000_0000
+    wide(refusals::number(why)) * 0x1_0000_0000
 }
 
 // The same, 2^48 high.
 fn refused_48(why: Refusal) -> u64
     ensures { λ r. ⌜ r ≡ numberOf why * 2 ^ 48 ⌝ }
 {
-    wide(answers::number(why)) * 0x1_0000_0000_0000
+    wide(refusals::number(why)) * 0x1_0000_0000_0000
 }
 
 // The day of a date.
@@ -178,7 +178,7 @@ fn unfold_number(answer: Unfolded) -> u64
 {
     match answer {
         Unfolded::Done => 0,
-        Unfolded::Refused(why) => wide(answers::number(why)),
+        Unfolded::Refused(why) => wide(refusals::number(why)),
     }
 }
 
@@ -187,5 +187,5 @@ fn unfold_number(answer: Unfolded) -> u64
 pub extern "C" fn ijok_verdict(line: &[u8]) -> u64
     ensures { λ r. ⌜ r ≡ verdictOf (now (line .entry)) ⌝ }
 {
-    wide(frames::number(frames::judge_line(line)))
+    wide(verdicts::number(verdicts::judge_line(line)))
 }

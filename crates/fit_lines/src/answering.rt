@@ -8,7 +8,7 @@ use crate::writing::put;
 use crate::writing::put_all;
 use crate::writing::put_number;
 use crate::writing::put_numbers;
-use answers::Refusal;
+use refusals::Refusal;
 use fitting::Fitted;
 use fitting::Line;
 use fitting::Unfolded;
@@ -27,7 +27,7 @@ fn front(numbers: &[u64], count: usize) -> &[u64] {
 }
 
 fn put_refusal(sink: Sink, why: Refusal, out: &mut [u8]) -> Sink {
-    put_number(sink, answers::number(why) as u64, out)
+    put_number(sink, refusals::number(why) as u64, out)
 }
 
 fn put_no_request(sink: Sink, out: &mut [u8]) -> Sink {

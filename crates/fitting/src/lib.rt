@@ -1,5 +1,5 @@
 // Fitting: the digital straight line with the least denominator that generates a code of month lengths. Unfolding: the lengths that a line yields.
-use answers::Refusal;
+use refusals::Refusal;
 ghost use mathlib.Core.Path.{_≡_};
 ghost use mathlib.Core.Bool.{true};
 ghost use mathlib.Core.List.{_++_};

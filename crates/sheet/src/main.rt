@@ -1,19 +1,19 @@
 // The sheet program: frames from standard input, one a line, and their answer numbers to standard output. All that matters is in
-// `frames`; here is only reading and writing.
-use frames::Progress;
-use frames::Unfinished;
+// `verdicts`; here is only reading and writing.
+use verdicts::Progress;
+use verdicts::Unfinished;
 use libc::STDIN_FILENO;
 use libc::STDOUT_FILENO;
 ghost use Prim.Native.Nat.{_*_, _≤_};
 ghost use lib.ListN.{length};
-ghost use Rattle.frames.specs.Kept.{Judged};
+ghost use Rattle.verdicts.specs.Kept.{Judged};
 
 // Judges a piece for whose answers output has room: all of it is taken.
 fn judge(state: Unfinished, piece: &[u8], output: &mut [u8]) -> Progress
     requires { ⌜ length (now piece) * 3 ≤ length (now output) ⌝ }
     ensures { λ r. ⌜ Judged state (now (piece .entry)) (now (output .entry)) r (now (output .exit)) ⌝ }
 {
-    frames::judge_piece(state, piece, output)
+    verdicts::judge_piece(state, piece, output)
 }
 
 // What one turn leaves: the state for the next, and whether there is one.
@@ -75,7 +75,7 @@ fn read_all(input: &mut [u8], output: &mut [u8]) -> Unfinished
 fn main() {
     let mut input = [0u8; 14336];
     let mut output = [0u8; 43008];
-    let last = frames::finish(read_all(&mut input, &mut output));
+    let last = verdicts::finish(read_all(&mut input, &mut output));
     let bytes = last.bytes;
     let count = last.count;
     io::write_all(STDOUT_FILENO, &bytes[..count]);

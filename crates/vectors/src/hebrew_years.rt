@@ -4,7 +4,7 @@ use crate::rows;
 use crate::rows::Line;
 use crate::tally;
 use crate::tally::Finding;
-use answers::Refusal;
+use refusals::Refusal;
 use calendars::Date;
 use calendars::Day;
 use calendars::Length;

@@ -1,5 +1,5 @@
 // Writes names, numbers and answers to standard output.
-use answers::Refusal;
+use refusals::Refusal;
 use libc::STDOUT_FILENO;
 
 pub(crate) fn put(text: &[u8]) {
@@ -28,7 +28,7 @@ fn magnitude(year: i64) -> u64 {
 
 pub(crate) fn put_refusal(why: Refusal) {
     put(b"refused ");
-    put_number(wide(answers::number(why)));
+    put_number(wide(refusals::number(why)));
 }
 
 pub(crate) fn wide(x: u8) -> u64 {

@@ -8,7 +8,7 @@ use mir.Val.{SFits, toZ, ofZ}
 use mir.ValLaws.{toZ-ofZ, toZ-pos}
 use Rattle.counting.specs.Years.{yearAt}
 use Rattle.counting.proofs.Signs.{year-small}
-use Rattle.rules.proofs.Tables.{places-small}
+use Rattle.calendar_rules.proofs.Tables.{places-small}
 use Rattle.calendars.proofs.ByRow.{shaped}
 use Rattle.calendars.proofs.Dates.{rest-below, place-within, date-counted}
 use borrow.Author.Needs.{needs}

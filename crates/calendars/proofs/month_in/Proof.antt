@@ -3,8 +3,8 @@ use mathlib.Core.Path.{refl, _∙_}
 use Prim.Native.Nat.{_-_}
 use native.Mathlib.Omega.{arith}
 use borrow.Author.Tests.{eq-eqb, ne-eqb}
-use Rattle.rules.proofs.Bounds.{start-within}
-use Rattle.rules.proofs.Tables.{before-small}
+use Rattle.calendar_rules.proofs.Bounds.{start-within}
+use Rattle.calendar_rules.proofs.Tables.{before-small}
 use Rattle.calendars.proofs.ByRow.{shaped}
 use Rattle.calendars.proofs.Dates.{before-is, len-is, in-places}
 use borrow.Author.Needs.{needs}

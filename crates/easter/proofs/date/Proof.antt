@@ -5,7 +5,7 @@ use mathlib.Core.Logic.{⊎-elim}
 use lib.Dec.{eqb}
 use borrow.Author.Needs.{needs}
 use borrow.Author.Tests.{eq-eqb, ne-eqb, lt-ltb, le-ltb}
-use Rattle.easter_rule.specs.Rule.{exceptionI, exceptionII, dated}
+use Rattle.computus.specs.Rule.{exceptionI, exceptionII, dated}
 use Rattle.easter.proofs.date.Statement.{statement}
 use Rattle.easter.proofs.date.Tie as tie
 

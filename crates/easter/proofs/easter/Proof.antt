@@ -5,7 +5,7 @@ use borrow.Author.Tests.{eq-eqb, ne-eqb}
 use mir.Syntax.{w64}
 use mir.Val.{toZ, ofZ}
 use mir.ValLaws.{toZ-ofZ}
-use Rattle.easter_rule.specs.Rule.{easterAnswer}
+use Rattle.computus.specs.Rule.{easterAnswer}
 use Rattle.easter.proofs.easter.Statement.{statement}
 use Rattle.easter.proofs.easter.Tie as tie
 

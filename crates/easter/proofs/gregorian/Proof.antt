@@ -3,7 +3,7 @@ use mathlib.Core.Path.{_≡_, sym, _∙_}
 use borrow.Author.Needs.{needs}
 use mir.Syntax.{w64}
 use mir.ValLaws.{toZ-ofZ}
-use Rattle.easter_rule.specs.Rule.{gregorianEaster}
+use Rattle.computus.specs.Rule.{gregorianEaster}
 use Rattle.easter.specs.Paper.{yearFrom}
 use Rattle.easter.proofs.Years.{asked-for, at-most-9999}
 use Rattle.easter.proofs.gregorian.Statement.{statement}

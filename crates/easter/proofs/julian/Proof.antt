@@ -3,7 +3,7 @@ use mathlib.Core.Path.{_≡_, sym, _∙_}
 use borrow.Author.Needs.{needs}
 use mir.Syntax.{w64}
 use mir.ValLaws.{toZ-ofZ}
-use Rattle.easter_rule.specs.Rule.{julianEaster}
+use Rattle.computus.specs.Rule.{julianEaster}
 use Rattle.easter.specs.Paper.{yearFrom}
 use Rattle.easter.proofs.Years.{asked-for}
 use Rattle.easter.proofs.julian.Statement.{statement}

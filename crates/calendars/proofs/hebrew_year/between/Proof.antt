@@ -5,7 +5,7 @@ use native.Mathlib.Omega.{arith}
 use Rattle.hebrew.specs.Hebrew.{newYear}
 use Rattle.hebrew.proofs.Lengths.{grows}
 use Rattle.hebrew.proofs.Bounds.{new-year-from}
-use Rattle.rules.proofs.HebrewYears.{hebrew-leap, hebrew-common, long}
+use Rattle.calendar_rules.proofs.HebrewYears.{hebrew-leap, hebrew-common, long}
 use Rattle.calendars.proofs.hebrew_year.between.Statement.{statement}
 use Rattle.calendars.proofs.hebrew_year.between.Tie as tie
 

@@ -3,7 +3,7 @@ use mathlib.Core.Path.{_≡_, ap, _∙_}
 use Prim.Native.Nat.{_+_, _-_}
 use native.Mathlib.Omega.{arith}
 use Rattle.hebrew.specs.Hebrew.{newYear}
-use Rattle.rules.proofs.HebrewYears.{guess, guess-right, guess-high}
+use Rattle.calendar_rules.proofs.HebrewYears.{guess, guess-right, guess-high}
 use borrow.Author.Needs.{needs}
 use Rattle.calendars.proofs.hebrew_year.year_of.Statement.{statement}
 use Rattle.calendars.proofs.hebrew_year.year_of.Tie as tie

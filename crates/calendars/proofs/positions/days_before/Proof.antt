@@ -1,7 +1,7 @@
 -- `calendars::positions::days_before` meets its contract: the byte of a position, of the word that has it.
 use native.Mathlib.Omega.{arith}
-use Rattle.rules.specs.Shapes.{base, before}
-use Rattle.rules.proofs.Tables.{line-small, byte-in, places-small}
+use Rattle.calendar_rules.specs.Shapes.{base, before}
+use Rattle.calendar_rules.proofs.Tables.{line-small, byte-in, places-small}
 use borrow.Author.Needs.{needs}
 use Rattle.calendars.proofs.positions.days_before.Statement.{statement}
 use Rattle.calendars.proofs.positions.days_before.Tie as tie

@@ -1,8 +1,8 @@
 -- `calendars::positions::hebrew_totals` meets its contract: each arm has the words of its shape.
 use native.Mathlib.Omega.{arith}
 use Rattle.counting.specs.Calendar.{total}
-use Rattle.rules.specs.Shapes.{before, bytes, word}
-use Rattle.rules.proofs.Tables.{totals-at}
+use Rattle.calendar_rules.specs.Shapes.{before, bytes, word}
+use Rattle.calendar_rules.proofs.Tables.{totals-at}
 use Rattle.calendars.proofs.positions.hebrew_totals.Statement.{statement}
 use Rattle.calendars.proofs.positions.hebrew_totals.Tie as tie
 

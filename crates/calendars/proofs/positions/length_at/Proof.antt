@@ -4,10 +4,10 @@ use Prim.Native.Nat.{ℕ, suc, _-_}
 use native.Mathlib.Omega.{arith}
 use lib.ListN.{List·getD-eq-default}
 use mathlib.Core.List.{List}
-use Rattle.rules.specs.Shapes.{shape, before}
+use Rattle.calendar_rules.specs.Shapes.{shape, before}
 use Rattle.counting.specs.Calendar.{len}
-use Rattle.rules.proofs.HebrewYears.{kind-of-shape}
-use Rattle.rules.proofs.Tables.{before-next, before-mono, few}
+use Rattle.calendar_rules.proofs.HebrewYears.{kind-of-shape}
+use Rattle.calendar_rules.proofs.Tables.{before-next, before-mono, few}
 use borrow.Author.Needs.{needs}
 use Rattle.calendars.proofs.positions.length_at.Statement.{statement}
 use Rattle.calendars.proofs.positions.length_at.Tie as tie

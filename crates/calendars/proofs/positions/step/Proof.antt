@@ -4,8 +4,8 @@ use Prim.Native.Nat.{suc}
 use native.Mathlib.Omega.{arith}
 use native.Mathlib.Numerals.{add-one}
 use borrow.Author.Tests.{le-leb, lt-leb}
-use Rattle.rules.specs.Shapes.{before}
-use Rattle.rules.proofs.Tables.{places-small}
+use Rattle.calendar_rules.specs.Shapes.{before}
+use Rattle.calendar_rules.proofs.Tables.{places-small}
 use borrow.Author.Needs.{needs}
 use Rattle.calendars.proofs.positions.step.Statement.{statement}
 use Rattle.calendars.proofs.positions.step.Tie as tie

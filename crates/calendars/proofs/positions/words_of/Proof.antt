@@ -3,8 +3,8 @@ use mathlib.Core.Path.{_≡_, refl}
 use Prim.Native.Nat.{_+_, _*_}
 use native.Mathlib.Omega.{arith}
 use Rattle.counting.specs.Calendar.{total}
-use Rattle.rules.specs.Shapes.{before, bytes, word}
-use Rattle.rules.proofs.Tables.{totals-at, none-below}
+use Rattle.calendar_rules.specs.Shapes.{before, bytes, word}
+use Rattle.calendar_rules.proofs.Tables.{totals-at, none-below}
 use Rattle.calendars.proofs.positions.words_of.Statement.{statement}
 use Rattle.calendars.proofs.positions.words_of.Tie as tie
 

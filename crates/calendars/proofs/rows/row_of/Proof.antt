@@ -2,11 +2,11 @@
 use mathlib.Core.Path.{refl}
 use native.Mathlib.Omega.{arith}
 use Rattle.counting.specs.Calendar.{total}
-use Rattle.rules.specs.Calendars.{egyptian, armenian, khwarizmian, persian, ethiopian, coptic, republican, macedonian, syrian, julian, gregorian, islamicA, islamicB, bahai, saka, hebrew, lookup, calendar}
-use Rattle.rules.specs.Shapes.{leapsBelow, daysBelow}
-use Rattle.rules.proofs.Listed.{not-listed}
-use Rattle.rules.proofs.Rows as R
-use Rattle.rules.proofs.Tables.{pairTest, pair, aloneTest, alone}
+use Rattle.calendar_rules.specs.Calendars.{egyptian, armenian, khwarizmian, persian, ethiopian, coptic, republican, macedonian, syrian, julian, gregorian, islamicA, islamicB, bahai, saka, hebrew, lookup, calendar}
+use Rattle.calendar_rules.specs.Shapes.{leapsBelow, daysBelow}
+use Rattle.calendar_rules.proofs.Listed.{not-listed}
+use Rattle.calendar_rules.proofs.Rows as R
+use Rattle.calendar_rules.proofs.Tables.{pairTest, pair, aloneTest, alone}
 use Rattle.calendars.proofs.ByRow.{row-at}
 use Rattle.calendars.proofs.rows.row_of.Statement.{statement}
 use Rattle.calendars.proofs.rows.row_of.Tie as tie

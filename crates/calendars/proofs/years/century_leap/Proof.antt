@@ -1,5 +1,5 @@
 -- `calendars::years::century_leap` meets its contract.
-use Rattle.rules.proofs.Gregorian.{by-steps}
+use Rattle.calendar_rules.proofs.Gregorian.{by-steps}
 use Rattle.calendars.proofs.years.century_leap.Statement.{statement}
 use Rattle.calendars.proofs.years.century_leap.Tie as tie
 

@@ -1,7 +1,7 @@
 -- `calendars::years::fourth_year` meets its contract.
 use native.Mathlib.Omega.{arith}
 use borrow.Author.Tests.{eq-eqb, ne-eqb}
-use Rattle.rules.proofs.Years.{fourth-year, in-leap-year, in-common-year}
+use Rattle.calendar_rules.proofs.Years.{fourth-year, in-leap-year, in-common-year}
 use borrow.Author.Needs.{needs}
 use Rattle.calendars.proofs.years.fourth_year.Statement.{statement}
 use Rattle.calendars.proofs.years.fourth_year.Tie as tie

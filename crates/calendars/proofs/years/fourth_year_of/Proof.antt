@@ -1,5 +1,5 @@
 -- `calendars::years::fourth_year_of` meets its contract.
-use Rattle.rules.proofs.Years.{fourth-in}
+use Rattle.calendar_rules.proofs.Years.{fourth-in}
 use borrow.Author.Needs.{needs}
 use Rattle.calendars.proofs.years.fourth_year_of.Statement.{statement}
 use Rattle.calendars.proofs.years.fourth_year_of.Tie as tie

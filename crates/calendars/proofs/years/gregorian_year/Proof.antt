@@ -1,8 +1,8 @@
 -- `calendars::years::gregorian_year` meets its contract.
 use mathlib.Core.Path.{sym, _∙_}
 use native.Mathlib.Omega.{arith}
-use Rattle.rules.proofs.Years.{in-leap-year, in-common-year}
-use Rattle.rules.proofs.Gregorian.{centuryDays, century-days, days-room, gregorian-year}
+use Rattle.calendar_rules.proofs.Years.{in-leap-year, in-common-year}
+use Rattle.calendar_rules.proofs.Gregorian.{centuryDays, century-days, days-room, gregorian-year}
 use borrow.Author.Needs.{needs}
 use Rattle.calendars.proofs.years.gregorian_year.Statement.{statement}
 use Rattle.calendars.proofs.years.gregorian_year.Tie as tie

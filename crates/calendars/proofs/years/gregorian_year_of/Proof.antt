@@ -2,7 +2,7 @@
 use mathlib.Core.Path.{_∙_}
 use Prim.Native.Nat.{_≤_}
 use native.Mathlib.Omega.{arith}
-use Rattle.rules.proofs.Gregorian.{century-days, days-few, gregorian-in}
+use Rattle.calendar_rules.proofs.Gregorian.{century-days, days-few, gregorian-in}
 use borrow.Author.Needs.{needs}
 use Rattle.calendars.proofs.years.gregorian_year_of.Statement.{statement}
 use Rattle.calendars.proofs.years.gregorian_year_of.Tie as tie

@@ -1,6 +1,6 @@
 -- `calendars::years::islamic_year` meets its contract.
 use borrow.Author.Tests.{le-leb, lt-leb}
-use Rattle.rules.proofs.Years.{islamic-year, in-leap-year, in-common-year}
+use Rattle.calendar_rules.proofs.Years.{islamic-year, in-leap-year, in-common-year}
 use borrow.Author.Needs.{needs}
 use Rattle.calendars.proofs.years.islamic_year.Statement.{statement}
 use Rattle.calendars.proofs.years.islamic_year.Tie as tie

@@ -1,5 +1,5 @@
 -- `calendars::years::islamic_year_of` meets its contract.
-use Rattle.rules.proofs.Years.{islamic-in}
+use Rattle.calendar_rules.proofs.Years.{islamic-in}
 use borrow.Author.Needs.{needs}
 use Rattle.calendars.proofs.years.islamic_year_of.Statement.{statement}
 use Rattle.calendars.proofs.years.islamic_year_of.Tie as tie

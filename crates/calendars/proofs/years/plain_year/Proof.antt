@@ -1,5 +1,5 @@
 -- `calendars::years::plain_year` meets its contract.
-use Rattle.rules.proofs.Years.{plain-year}
+use Rattle.calendar_rules.proofs.Years.{plain-year}
 use borrow.Author.Needs.{needs}
 use Rattle.calendars.proofs.years.plain_year.Statement.{statement}
 use Rattle.calendars.proofs.years.plain_year.Tie as tie

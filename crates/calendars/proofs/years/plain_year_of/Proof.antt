@@ -1,5 +1,5 @@
 -- `calendars::years::plain_year_of` meets its contract.
-use Rattle.rules.proofs.Years.{plain-in}
+use Rattle.calendar_rules.proofs.Years.{plain-in}
 use borrow.Author.Needs.{needs}
 use Rattle.calendars.proofs.years.plain_year_of.Statement.{statement}
 use Rattle.calendars.proofs.years.plain_year_of.Tie as tie

@@ -1,0 +1,110 @@
+-- What is shown of the sixteen calendars, on one page. It rests on these definitions: the rows (`table`, `calendar` of specs/Calendars.antt), what is answered for a
+-- number (`dayAnswer`, `dateAnswer`, `lengthAnswer` of specs/Answers.antt; an answer whose number is 0 is no refusal), and of crate counting what a calendar
+-- answers (`dayFor`, `dateFor`, `lengthFor`), the date that follows (`next`), a date counted from the first year (`Date`) and the order of dates (`Earlier`).
+-- What counting's claims page shows of any calendar in which every year has days holds of each that is listed; here it is said by number.
+use mathlib.Core.Path.{_≡_, refl, _∙_}
+use mathlib.Core.Logic.{_↔_}
+use mathlib.Core.Option.{Option}
+use Prim.Native.Nat.{ℕ, suc, _≤_, _<_}
+use native.Mathlib.Omega.{arith}
+use lib.IntN.{ℤ}
+use Rattle.counting.specs.Calendar.{Date, total, next}
+use Rattle.counting.specs.Years.{yearsFrom}
+use Rattle.counting.specs.Answers.{Calendar, years, DayAnswer, DateAnswer, lastDay, dateOn, dated, dayFor, dateFor, lengthFor, Proper}
+use Rattle.counting.specs.Order.{Earlier}
+use Rattle.counting.proofs.Claims as C
+use Rattle.calendar_rules.specs.Calendars.{calendar, Listed}
+use Rattle.calendar_rules.specs.Answers.{ofListed, dayAnswer, dateAnswer, lengthAnswer}
+use Rattle.calendar_rules.proofs.Bounds as B
+use Rattle.calendar_rules.proofs.Listed.{Sound, listed-sound, sound-proper}
+
+-- ---- a number that is listed: the answers are its calendar's
+
+module _ {c : ℕ} {K : Calendar} (l : Listed c K) where
+  sound : Sound K
+  sound = listed-sound l
+
+  -- one that counting's theorems are about
+  pub listed-proper : Proper K
+  listed-proper = sound-proper sound
+
+  pub day-asked : (y : ℤ) (m d : ℕ) → dayAnswer c y m d ≡ dayFor K y m d
+  unfolding dayAnswer
+  day-asked y m d = rw (l .row) refl
+
+  pub date-asked : (n : ℕ) → dateAnswer c n ≡ dateFor K n
+  unfolding dateAnswer
+  date-asked n = rw (l .row) refl
+
+  pub length-asked : (y : ℤ) (m : ℕ) → lengthAnswer c y m ≡ lengthFor K y m
+  unfolding lengthAnswer
+  length-asked y m = rw (l .row) refl
+
+  -- day to date is counting one by one from the listed first day: the first day is 1/1 of the first year,
+  pub first-day : dateAnswer c (K .firstDay) ≡ record { number = 0; year = K .firstYear; month = 1; day = 1 }
+  first-day = date-asked (K .firstDay) ∙ C.first-day K listed-proper (B.year-opens (sound .shaped) 0) (omega (arith, sound .first-day))
+
+  -- and each day after has the date that follows
+  pub next-day : (n : ℕ) → K .firstDay ≤ n → n < lastDay → (D : Date) × (dateAnswer c n ≡ dated K D) × (dateAnswer c (suc n) ≡ dated K (next (years K) D))
+  next-day n f k = let x = C.next-day K listed-proper n f k in (x .0, date-asked n ∙ x .1, date-asked (suc n) ∙ x .2)
+
+  -- every day from the first to 5,373,484 has a date, and it is accepted back
+  pub every-day : (n : ℕ) → K .firstDay ≤ n → n ≤ lastDay
+      → let x = dateAnswer c n in (x .number ≡ 0) × (dayAnswer c (x .year) (x .month) (x .day) ≡ record { number = 0; day = n })
+  every-day n f k = let x = C.every-day K listed-proper n f k in rw (date-asked n) (x .0, day-asked _ _ _ ∙ x .1)
+
+  -- a year has 353 to 385 days
+  pub year-days : (i : ℕ) → (353 ≤ total (years K i)) × (total (years K i) ≤ 385)
+  year-days = B.year-days (sound .shaped)
+
+-- ---- where the answer is no refusal, the number is listed
+
+was-listed : {A : Type 0} (number : A → ℕ) (c : ℕ) (refusal : A) (answer : Calendar → A) → (number refusal ≡ 0 → ⊥)
+    → number (ofListed (calendar c) refusal answer) ≡ 0
+    → (K : Calendar) × Listed c K
+was-listed number c refusal answer n = go (calendar c) refl
+  where
+    go : (o : Option Calendar) → calendar c ≡ o → number (ofListed o refusal answer) ≡ 0 → (K : Calendar) × Listed c K
+    go Option.none l e = absurd (n e)
+    go (Option.some K) l e = (K, record { row = l })
+
+pub day-listed : (c : ℕ) (y : ℤ) (m d : ℕ) → dayAnswer c y m d .number ≡ 0 → (K : Calendar) × Listed c K
+unfolding dayAnswer
+day-listed c y m d = was-listed (λ (a : DayAnswer). a .number) c _ _ (λ e. omega arith)
+
+pub date-listed : (c n : ℕ) → dateAnswer c n .number ≡ 0 → (K : Calendar) × Listed c K
+unfolding dateAnswer
+date-listed c n = was-listed (λ (a : DateAnswer). a .number) c _ _ (λ e. omega arith)
+
+-- date to day agrees with counting: the day that a date is given is the one that counting reaches the date on
+pub counted : (c : ℕ) (y : ℤ) (m d : ℕ) → dayAnswer c y m d .number ≡ 0
+    → (K : Calendar) × Listed c K
+    × (let n = dayAnswer c y m d .day in (K .firstDay ≤ n) × (n ≤ lastDay) × (dateOn K n ≡ record { year = yearsFrom (K .firstYear) y; month = m; day = d }))
+counted c y m d e =
+    let l = day-listed c y m d e in
+    let a = day-asked (l .1) y m d in
+    (l .0, l .1, rw a (C.counted-day (l .0) (listed-proper (l .1)) y m d (rw a at e)))
+
+-- each undoes the other
+pub there-and-back : (c : ℕ) (y : ℤ) (m d : ℕ) → dayAnswer c y m d .number ≡ 0
+    → dateAnswer c (dayAnswer c y m d .day) ≡ record { number = 0; year = y; month = m; day = d }
+there-and-back c y m d e =
+    let l = day-listed c y m d e in
+    let a = day-asked (l .1) y m d in
+    rw a (date-asked (l .1) _ ∙ C.there-and-back (l .0) (listed-proper (l .1)) y m d (rw a at e))
+
+pub back-and-there : (c n : ℕ) → dateAnswer c n .number ≡ 0
+    → let x = dateAnswer c n in dayAnswer c (x .year) (x .month) (x .day) ≡ record { number = 0; day = n }
+back-and-there c n e =
+    let l = date-listed c n e in
+    let a = date-asked (l .1) n in
+    rw a (day-asked (l .1) _ _ _ ∙ C.back-and-there (l .0) (listed-proper (l .1)) n (rw a at e))
+
+-- dates in order have days in order, and the other way round
+pub ordered : (c : ℕ) (y : ℤ) (m d : ℕ) (y′ : ℤ) (m′ d′ : ℕ) → dayAnswer c y m d .number ≡ 0 → dayAnswer c y′ m′ d′ .number ≡ 0
+    → Earlier y m d y′ m′ d′ ↔ (dayAnswer c y m d .day < dayAnswer c y′ m′ d′ .day)
+ordered c y m d y′ m′ d′ e e′ =
+    let l = day-listed c y m d e in
+    let a = day-asked (l .1) y m d in
+    let a′ = day-asked (l .1) y′ m′ d′ in
+    rw (a, a′) (C.dates-ordered (l .0) (listed-proper (l .1)) y m d y′ m′ d′ (rw a at e) (rw a′ at e′))

@@ -1,0 +1,21 @@
+-- What is answered for a calendar's number, by document 01's table "Answer numbers": 1 where the number is not listed, and else what the calendar answers
+-- (`dayFor`, `dateFor`, `lengthFor` of crate counting). So date to day tries 1, 2, 3, 4, 5; day to date 1, 5; the length of a position 1, 2, 3.
+use Prim.Native.Nat.{ℕ}
+use mathlib.Core.Option.{Option}
+use lib.IntN.{ℤ}
+use Rattle.counting.specs.Answers.{Calendar, DayAnswer, noDayAnswer, dayFor, DateAnswer, noDateAnswer, dateFor, LengthAnswer, noLengthAnswer, lengthFor}
+use Rattle.calendar_rules.specs.Calendars.{calendar}
+
+-- the calendar's answer, or the refusal where there is none
+abbrev pub ofListed : {A : Type 0} → Option Calendar → A → (Calendar → A) → A
+ofListed Option.none refusal answer = refusal
+ofListed (Option.some K) refusal answer = answer K
+
+unfoldable pub dayAnswer : ℕ → ℤ → ℕ → ℕ → DayAnswer
+dayAnswer c y m d = ofListed (calendar c) (noDayAnswer 1) (λ K. dayFor K y m d)
+
+unfoldable pub dateAnswer : ℕ → ℕ → DateAnswer
+dateAnswer c n = ofListed (calendar c) (noDateAnswer 1) (λ K. dateFor K n)
+
+unfoldable pub lengthAnswer : ℕ → ℤ → ℕ → LengthAnswer
+lengthAnswer c y m = ofListed (calendar c) (noLengthAnswer 1) (λ K. lengthFor K y m)

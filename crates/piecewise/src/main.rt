@@ -1,0 +1,48 @@
+// Runs document 01's example of a sheet through `verdicts` in pieces of each length, with small and large output buffers. Each run writes
+// the example's answers; an empty input writes nothing.
+use verdicts::Unfinished;
+use libc::STDOUT_FILENO;
+ghost use Prim.Native.Nat.{_≤_};
+
+fn least(a: usize, b: usize) -> usize
+    ensures { λ r. ⌜ r ≤ a ⌝ }
+{
+    if a < b { a } else { b }
+}
+
+// The whole input in pieces of `size` bytes, or of fewer where the output has no room for their answers.
+fn run(input: &[u8], size: usize, output: &mut [u8]) {
+    let mut state = Unfinished::new();
+    let mut at = 0;
+    while at < input.len() {
+        let n = least(input.len() - at, size);
+        let end = at + n;
+        let done = verdicts::judge_piece(state, &input[at..end], output);
+        let written = done.written;
+        let consumed = done.consumed;
+        let next = done.state;
+        io::write_all(STDOUT_FILENO, &output[..written]);
+        if consumed == 0 {
+            return;
+        }
+        state = next;
+        at += consumed;
+    }
+    let last = verdicts::finish(state);
+    let bytes = last.bytes;
+    let count = last.count;
+    io::write_all(STDOUT_FILENO, &bytes[..count]);
+}
+
+fn main() {
+    let example = b"0b1a380101256859\n0b1a38010125685a\nxyz";
+    let mut small = [0u8; 3];
+    let mut middle = [0u8; 16];
+    let mut large = [0u8; 128];
+    for size in 1..40 {
+        run(example, size, &mut small);
+        run(example, size, &mut middle);
+        run(example, size, &mut large);
+    }
+    run(b"", 1, &mut large);
+}

@@ -1,0 +1,54 @@
+-- What is shown of the refusals' numbers (`specs/Number.antt`): none is 0, and each refusal has its own.
+use mathlib.Core.Path.{_≡_, refl, sym, ap, _∙_}
+use mathlib.Core.List.{List, [], _∷_}
+use Prim.Native.Nat.{ℕ, _-_, _≤_}
+use native.Mathlib.Omega.{arith}
+use mathlib.Core.Bool.{false}
+use lib.Dec.{eqb}
+use lib.ListN.{getD}
+use borrow.Author.Tests.{ne-eqb}
+use Rattle.refusals.specs.declared.Refusal.{Refusal}
+use Rattle.refusals.specs.declared.Refusal.the-variants.{UnknownCalendar, YearOutOfRange, NoSuchMonth, NoSuchDay, DayOutOfRange, CodeOutOfLimits, NoLine, MalformedFrame, WrongDay, LineOutOfLimits, BufferTooShort}
+use Rattle.refusals.specs.Number.{numberOf}
+
+-- the refusals in the order of their numbers
+numbered : List Refusal
+numbered =
+    UnknownCalendar
+    ∷ YearOutOfRange
+    ∷ NoSuchMonth
+    ∷ NoSuchDay
+    ∷ DayOutOfRange
+    ∷ CodeOutOfLimits
+    ∷ NoLine
+    ∷ MalformedFrame
+    ∷ WrongDay
+    ∷ LineOutOfLimits
+    ∷ BufferTooShort
+    ∷ []
+
+back : (why : Refusal) → (getD numbered (numberOf why - 1) UnknownCalendar ≡ why) × (1 ≤ numberOf why)
+unfolding numbered
+back UnknownCalendar = (refl, omega arith)
+back YearOutOfRange = (refl, omega arith)
+back NoSuchMonth = (refl, omega arith)
+back NoSuchDay = (refl, omega arith)
+back DayOutOfRange = (refl, omega arith)
+back CodeOutOfLimits = (refl, omega arith)
+back NoLine = (refl, omega arith)
+back MalformedFrame = (refl, omega arith)
+back WrongDay = (refl, omega arith)
+back LineOutOfLimits = (refl, omega arith)
+back BufferTooShort = (refl, omega arith)
+
+-- no refusal has the number 0, which is that of an answer
+pub not-done : (why : Refusal) → 1 ≤ numberOf why
+not-done why = back why .1
+
+-- so a test for 0 tells an answer from a refusal
+pub not-zero : (why : Refusal) → eqb (numberOf why) 0 ≡ false
+not-zero why = ne-eqb (numberOf why) 0 (λ e. omega (arith, not-done why))
+
+-- refusals with one number are one refusal
+pub own-number : (x y : Refusal) → numberOf x ≡ numberOf y → x ≡ y
+own-number x y e = sym (back x .0) ∙ ap (λ (n : ℕ). getD numbered (n - 1) UnknownCalendar) e ∙ back y .0

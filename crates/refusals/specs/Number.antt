@@ -1,0 +1,17 @@
+-- The number of each refusal, as document 01's table of answer numbers lists it. An answer that is no refusal has the number 0.
+use Prim.Native.Nat.{ℕ}
+use Rattle.refusals.specs.declared.Refusal.{Refusal}
+use Rattle.refusals.specs.declared.Refusal.the-variants.{UnknownCalendar, YearOutOfRange, NoSuchMonth, NoSuchDay, DayOutOfRange, CodeOutOfLimits, NoLine, MalformedFrame, WrongDay, LineOutOfLimits, BufferTooShort}
+
+abbrev pub numberOf : Refusal → ℕ
+numberOf UnknownCalendar = 1
+numberOf YearOutOfRange = 2
+numberOf NoSuchMonth = 3
+numberOf NoSuchDay = 4
+numberOf DayOutOfRange = 5
+numberOf CodeOutOfLimits = 6
+numberOf NoLine = 7
+numberOf MalformedFrame = 8
+numberOf WrongDay = 9
+numberOf LineOutOfLimits = 10
+numberOf BufferTooShort = 11

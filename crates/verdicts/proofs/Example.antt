@@ -1,0 +1,26 @@
+-- Document 01's example of a sheet, computed by the definitions.
+use mathlib.Core.Path.{_≡_, refl}
+use mathlib.Core.List.{List, [], _∷_, _++_}
+use Prim.Native.Nat.{ℕ}
+use Rattle.counting.specs.Calendar.{total, start, dayOf}
+use Rattle.counting.specs.Answers.{years, dayFor}
+use Rattle.calendar_rules.specs.Calendars.{lookup, calendar}
+use Rattle.calendar_rules.specs.Answers.{dayAnswer}
+use Rattle.streaming.specs.Sheet.{linesOf, twoDigits, replies, outputOf}
+use Rattle.streaming.specs.Digits.{digitOf, allDigits, isFrame, numberFrom, field}
+use Rattle.verdicts.specs.Verdict.{against, verdictOf}
+
+-- 0b1a380101256859, 0b1a38010125685a, xyz
+abbrev pub input : List ℕ
+input =
+    (48 ∷ 98 ∷ 49 ∷ 97 ∷ 51 ∷ 56 ∷ 48 ∷ 49 ∷ 48 ∷ 49 ∷ 50 ∷ 53 ∷ 54 ∷ 56 ∷ 53 ∷ 57 ∷ 10 ∷ [])
+    ++ (48 ∷ 98 ∷ 49 ∷ 97 ∷ 51 ∷ 56 ∷ 48 ∷ 49 ∷ 48 ∷ 49 ∷ 50 ∷ 53 ∷ 54 ∷ 56 ∷ 53 ∷ 97 ∷ 10 ∷ [])
+    ++ (120 ∷ 121 ∷ 122 ∷ [])
+
+-- 00, 09, 08
+abbrev pub output : List ℕ
+output = 48 ∷ 48 ∷ 10 ∷ 48 ∷ 57 ∷ 10 ∷ 48 ∷ 56 ∷ 10 ∷ []
+
+pub example : outputOf verdictOf input ≡ output
+unfolding outputOf linesOf replies twoDigits verdictOf against isFrame allDigits digitOf numberFrom field dayAnswer calendar lookup dayFor years dayOf start total
+example = refl

@@ -1,0 +1,24 @@
+-- The verdict on one line of a sheet (document 01, "Sheets" and "Answer numbers").
+use mathlib.Core.List.{List}
+use mathlib.Core.Bool.{cond}
+use Prim.Native.Nat.{ℕ}
+use lib.Dec.{eqb}
+use Rattle.refusals.specs.Number.{numberOf}
+use Rattle.counting.specs.Answers.{DayAnswer}
+use Rattle.calendar_rules.specs.Answers.{dayAnswer}
+use Rattle.streaming.specs.Digits.{isFrame, calendarIn, yearIn, monthIn, dayIn, dayNumberIn}
+use Rattle.verdicts.specs.declared.Verdict.{Verdict}
+use Rattle.verdicts.specs.declared.Verdict.the-variants.{Right, Refused}
+
+-- the answer number of each verdict of the code
+abbrev pub verdictNumber : Verdict → ℕ
+verdictNumber Right = 0
+verdictNumber (Refused why) = numberOf why
+
+-- what date to day answers for the frame's date, against the frame's day: the first number that applies, 9 where the date is good and the day differs
+unfoldable pub against : DayAnswer → ℕ → ℕ
+against answer day = cond (eqb (answer .number) 0) (cond (eqb (answer .day) day) 0 9) (answer .number)
+
+-- the verdict on a line of any bytes: 8 unless it is exactly 16 lowercase hexadecimal digits
+unfoldable pub verdictOf : List ℕ → ℕ
+verdictOf line = cond (isFrame line) (against (dayAnswer (calendarIn line) (yearIn line) (monthIn line) (dayIn line)) (dayNumberIn line)) 8
