@@ -1,6 +1,5 @@
 // The proved functions for C, C++ and Rust: numbers and slices only. The fields of an answer are packed into one number, so that no result buffer can be too short
 // (`specs/Packed.antt`). A slice passes as a pointer and then a length.
-use refusals::Refusal;
 use calendars::Date;
 use calendars::Dated;
 use calendars::Day;
@@ -9,6 +8,7 @@ use easter::EasterDate;
 use fitting::Fitted;
 use fitting::Line;
 use fitting::Unfolded;
+use refusals::Refusal;
 ghost use mathlib.Core.Path.{_≡_};
 ghost use Prim.Native.Nat.{_+_, _*_, _^_, _<_};
 ghost use mathlib.Core.Bool.{false};

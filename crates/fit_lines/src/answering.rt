@@ -8,10 +8,10 @@ use crate::writing::put;
 use crate::writing::put_all;
 use crate::writing::put_number;
 use crate::writing::put_numbers;
-use refusals::Refusal;
 use fitting::Fitted;
 use fitting::Line;
 use fitting::Unfolded;
+use refusals::Refusal;
 ghost use Prim.Native.Nat.{_≤_};
 ghost use lib.ListN.{length};
 

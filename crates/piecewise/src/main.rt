@@ -1,7 +1,7 @@
 // Runs document 01's example of a sheet through `verdicts` in pieces of each length, with small and large output buffers. Each run writes
 // the example's answers; an empty input writes nothing.
-use verdicts::Unfinished;
 use libc::STDOUT_FILENO;
+use verdicts::Unfinished;
 ghost use Prim.Native.Nat.{_≤_};
 
 fn least(a: usize, b: usize) -> usize

@@ -1,9 +1,9 @@
 // The sheet program: frames from standard input, one a line, and their answer numbers to standard output. All that matters is in
 // `verdicts`; here is only reading and writing.
-use verdicts::Progress;
-use verdicts::Unfinished;
 use libc::STDIN_FILENO;
 use libc::STDOUT_FILENO;
+use verdicts::Progress;
+use verdicts::Unfinished;
 ghost use Prim.Native.Nat.{_*_, _≤_};
 ghost use lib.ListN.{length};
 ghost use Rattle.verdicts.specs.Kept.{Judged};

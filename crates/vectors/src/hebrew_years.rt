@@ -4,10 +4,10 @@ use crate::rows;
 use crate::rows::Line;
 use crate::tally;
 use crate::tally::Finding;
-use refusals::Refusal;
 use calendars::Date;
 use calendars::Day;
 use calendars::Length;
+use refusals::Refusal;
 
 pub(crate) fn compare_with(row: Line) -> Finding {
     let n = row.numbers;

@@ -1,6 +1,6 @@
 // Writes names, numbers and answers to standard output.
-use refusals::Refusal;
 use libc::STDOUT_FILENO;
+use refusals::Refusal;
 
 pub(crate) fn put(text: &[u8]) {
     io::write_all(STDOUT_FILENO, text);

@@ -3,13 +3,13 @@
 mod digits;
 mod lines;
 
-use refusals::Refusal;
 use calendars::Date;
 use calendars::Day;
 use digits::Digits;
 use lines::line_end;
 use lines::put;
 use lines::whole_lines;
+use refusals::Refusal;
 ghost use mathlib.Core.Path.{_≡_};
 ghost use mathlib.Core.List.{[], _++_};
 ghost use Prim.Native.Nat.{_*_, _≤_, min};
