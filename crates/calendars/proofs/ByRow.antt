@@ -9,10 +9,10 @@ use Rattle.calendar_rules.specs.Shapes.{centuries}
 use Rattle.calendar_rules.specs.Answers.{dateAnswer}
 use Rattle.calendar_rules.proofs.Listed.{listed-sound}
 use Rattle.calendar_rules.proofs.Bounds.{Shaped, plain-shaped, fourth-shaped, leap-by-shaped, islamic-shaped, hebrew-shaped}
-use Rattle.calendars.specs.declared.rows.LeapRule.{LeapRule}
-use Rattle.calendars.specs.declared.rows.LeapRule.the-variants as R
-use Rattle.calendars.specs.declared.rows.Row.{Row}
-use Rattle.calendars.specs.Rows.{yearsBy, Fits, yearsOf, Proper, RowOf}
+use Rattle.rows.specs.declared.LeapRule.{LeapRule}
+use Rattle.rows.specs.declared.LeapRule.the-variants as R
+use Rattle.rows.specs.declared.Row.{Row}
+use Rattle.rows.specs.Rows.{yearsBy, Fits, yearsOf, Proper, RowOf}
 use Rattle.calendars.specs.Parts.{monthBy, monthAnswer, dateBy}
 
 shaped-by : (rule : LeapRule) (s : ℕ) → Fits rule s → Shaped (yearsBy rule s)
@@ -36,18 +36,3 @@ module _ {c : ℕ} {row : Row} (r : RowOf c row) where
   pub date-asked : (n : ℕ) → dateBy (row .year) (row .day) (yearsOf row) n ≡ dateAnswer c n
   unfolding dateAnswer dateFor
   date-asked n = rw (r .listed .row, r .first-year, r .first-day, row-years) refl
-
--- an arm of the match on numbers
-pub row-at : {c : ℕ} {row : Row} (k : ℕ) (K : Calendar) → c ≡ k → calendar k ≡ Option.some K → row .year ≡ K .firstYear → row .day ≡ K .firstDay
-    → ((i : ℕ) → years K i ≡ yearsOf row i) → Fits (row .rule) (row .shape) → RowOf c row
-row-at {c} {row} k K e l y d same fits =
-    let listed : Listed c K = record { row = rw e l } in
-    let s = listed-sound listed in
-    record {
-      calendar = K;
-      listed = listed;
-      first-year = y;
-      first-day = d;
-      same-years = same;
-      proper = record { fits = fits; first-year = rw y (s .first-year); first-day = rw d (s .first-day) };
-    }

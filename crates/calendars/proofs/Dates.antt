@@ -14,7 +14,7 @@ use Rattle.calendar_rules.proofs.Tables.{before-next, few}
 use Rattle.calendar_rules.proofs.Bounds.{Shaped, has-days, year-within}
 use Rattle.calendars.specs.Positions.{InPosition}
 use Rattle.calendars.specs.Parts.{DateIs}
-use Rattle.calendars.specs.Years.{FoundIs}
+use Rattle.parts.specs.Years.{FoundIs}
 
 module _ {L : ℕ → List ℕ} {a i from s : ℕ} (y : YearIs L a i from s) where
   -- the days before a position, and its length

@@ -3,5 +3,4 @@ pub mod Answers
 pub mod ByRow
 pub mod Dates
 pub mod Leap
-pub mod Weekdays
 pub mod Claims

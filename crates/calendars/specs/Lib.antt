@@ -1,5 +1,3 @@
 pub mod Parts
 pub mod Positions
-pub mod Years
-pub mod Rows
 pub mod Paper

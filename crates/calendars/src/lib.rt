@@ -3,9 +3,7 @@ use refusals::Refusal;
 use rows::Listing;
 use rows::Row;
 
-mod hebrew_year;
 mod positions;
-mod rows;
 mod years;
 
 ghost use mathlib.Core.Path.{_≡_};
@@ -13,7 +11,7 @@ ghost use Prim.Native.Nat.{_≤_};
 ghost use Rattle.calendar_rules.specs.Answers.{dayAnswer, dateAnswer, lengthAnswer};
 ghost use Rattle.calendars.specs.Paper.{dayPaper, datePaper, lengthPaper, monthPaper};
 ghost use Rattle.calendars.specs.Parts.{monthIn, monthBy, monthAnswer, dayIn, DateIs, dateBy};
-ghost use Rattle.calendars.specs.Rows.{yearsOf, Proper};
+ghost use Rattle.rows.specs.Rows.{yearsOf, Proper};
 
 // A date. Years are signed, and year 0 exists; months and days are counted from 1.
 pub struct Date {

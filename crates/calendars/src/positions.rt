@@ -1,5 +1,4 @@
 // The positions of a year, by its shape: the days before each, its length, and the position that a day of the year is in.
-use crate::hebrew_year;
 ghost use mathlib.Core.Path.{_≡_};
 ghost use mathlib.Core.Bool.{cond};
 ghost use Prim.Native.Nat.{suc, _*_, _≤_, _<_};
@@ -216,7 +215,7 @@ pub(crate) fn length_at(s: u64, t: Totals, position: u64) -> u64
         return 0;
     }
     if 15 <= s {
-        return hebrew_year::month_days(s - 15, position);
+        return hebrew_days::month_days(s - 15, position - 1);
     }
     days_before(s, t, position) - days_before(s, t, position - 1)
 }

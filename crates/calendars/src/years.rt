@@ -1,24 +1,12 @@
 // The years of a calendar by division by constants: where a year begins and its shape, and the year that a day is in.
-use crate::hebrew_year;
-use crate::rows::LeapRule;
+use parts::Found;
+use parts::Year;
+use rows::LeapRule;
 ghost use mathlib.Core.Path.{_≡_};
 ghost use Prim.Native.Nat.{_≤_, _<_};
 ghost use Rattle.calendar_rules.specs.Shapes.{Common, Alone, centuries, leapBy, daysBelow, plainYears, fourthYears, leapByYears, islamicYears, YearIs};
-ghost use Rattle.calendars.specs.Years.{FoundIs};
-ghost use Rattle.calendars.specs.Rows.{yearsBy, Fits};
-
-// A year: the days before it from the calendar's first day, and its shape.
-pub struct Year {
-    pub start: u64,
-    pub shape: u64,
-}
-
-// The same with the years before it from the calendar's first.
-pub struct Found {
-    pub place: u64,
-    pub start: u64,
-    pub shape: u64,
-}
+ghost use Rattle.parts.specs.Years.{FoundIs};
+ghost use Rattle.rows.specs.Rows.{yearsBy, Fits};
 
 // The year that is i years after the first, by the kind of leap years: none.
 fn plain_year(s: u64, i: u64) -> Year
@@ -96,7 +84,7 @@ pub(crate) fn year_at(rule: LeapRule, s: u64, i: u64) -> Year
         LeapRule::Fourth { phase } => fourth_year(phase, s, i),
         LeapRule::Gregorian { offset, days } => gregorian_year(offset, days, s, i),
         LeapRule::Islamic => islamic_year(s, i),
-        LeapRule::Hebrew => hebrew_year::year_at(i),
+        LeapRule::Hebrew => hebrew_days::year_at(i as u32),
     }
 }
 
@@ -166,6 +154,6 @@ pub(crate) fn year_of(rule: LeapRule, s: u64, n: u64) -> Found
         LeapRule::Fourth { phase } => fourth_year_of(phase, s, n),
         LeapRule::Gregorian { offset, days } => gregorian_year_of(offset, days, s, n),
         LeapRule::Islamic => islamic_year_of(s, n),
-        LeapRule::Hebrew => hebrew_year::year_of(n),
+        LeapRule::Hebrew => hebrew_days::year_of(n as u32),
     }
 }

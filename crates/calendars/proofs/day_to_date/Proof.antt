@@ -1,8 +1,8 @@
 -- `calendars::day_to_date` meets its contract.
 use mathlib.Core.Path.{refl, subst, _∙_}
-use Rattle.calendars.specs.declared.rows.Listing.{Listing}
+use Rattle.rows.specs.declared.Listing.{Listing}
 use Rattle.calendar_rules.specs.Answers.{dateAnswer}
-use Rattle.calendars.specs.Rows.{ListingOf, RowOf}
+use Rattle.rows.specs.Rows.{ListingOf, RowOf}
 use Rattle.calendars.proofs.ByRow.{date-asked}
 use borrow.Author.Needs.{needs}
 use Rattle.calendars.proofs.day_to_date.Statement.{statement}

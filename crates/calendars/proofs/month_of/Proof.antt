@@ -2,8 +2,8 @@
 use mathlib.Core.Path.{refl, subst, _∙_}
 use mir.Syntax.{w64}
 use mir.ValLaws.{toZ-ofZ}
-use Rattle.calendars.specs.declared.rows.Listing.{Listing}
-use Rattle.calendars.specs.Rows.{ListingOf, RowOf}
+use Rattle.rows.specs.declared.Listing.{Listing}
+use Rattle.rows.specs.Rows.{ListingOf, RowOf}
 use Rattle.calendars.specs.Parts.{monthAnswer}
 use Rattle.calendars.proofs.ByRow.{month-asked}
 use borrow.Author.Needs.{needs}

@@ -18,6 +18,9 @@ places-of-requires c κs = search needs
 returns : tie.Need-returns
 returns c = let s = c .before .before in sym (List·getD-eq-default (shape (s .args .s)) 0 {n = s .args .position - 1} (omega (arith, few (s .args .s) (s .pre .0 .small), c .before .places-of .ensures, c .if1 .taken)))
 
+sub-month-days : tie.Need-sub-month-days
+sub-month-days c = search needs
+
 month-days-requires : tie.Need-month-days-requires
 month-days-requires c κs = search needs
 
@@ -48,6 +51,7 @@ length-at-spec =
     (tie.spec
     places-of-requires
     returns
+    sub-month-days
     month-days-requires
     returns-2
     days-before-requires

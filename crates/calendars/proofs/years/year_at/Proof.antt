@@ -31,6 +31,9 @@ islamic-year-requires c κs = let s = c .before .before in (rw (c .enum-told2 .g
 enum-told-3 : tie.Need-enum-told-3
 enum-told-3 c = search needs
 
+cast-year-at : tie.Need-cast-year-at
+cast-year-at c = search needs
+
 year-at-requires : tie.Need-year-at-requires
 year-at-requires c κs = search needs
 
@@ -66,6 +69,7 @@ year-at-spec =
     enum-told-2
     islamic-year-requires
     enum-told-3
+    cast-year-at
     year-at-requires
     returns
     returns-2

@@ -31,6 +31,9 @@ islamic-year-of-requires c κs = let s = c .before .before in (rw (c .enum-told2
 enum-told-3 : tie.Need-enum-told-3
 enum-told-3 c = search needs
 
+cast-year-of : tie.Need-cast-year-of
+cast-year-of c = search needs
+
 year-of-requires : tie.Need-year-of-requires
 year-of-requires c κs = search needs
 
@@ -66,6 +69,7 @@ year-of-spec =
     enum-told-2
     islamic-year-of-requires
     enum-told-3
+    cast-year-of
     year-of-requires
     returns
     returns-2
