@@ -1,13 +1,10 @@
 -- A row of the code: its years have shapes, and what is answered by its numbers is what is answered for the calendar's number.
 use mathlib.Core.Path.{_≡_, refl, fun-ext}
-use mathlib.Core.Option.{Option}
 use Prim.Native.Nat.{ℕ}
 use lib.IntN.{ℤ}
-use Rattle.counting.specs.Answers.{Calendar, years, dateFor}
-use Rattle.calendar_rules.specs.Calendars.{calendar, Listed}
+use Rattle.counting.specs.Answers.{years, dateFor}
 use Rattle.calendar_rules.specs.Shapes.{centuries}
 use Rattle.calendar_rules.specs.Answers.{dateAnswer}
-use Rattle.calendar_rules.proofs.Listed.{listed-sound}
 use Rattle.calendar_rules.proofs.Bounds.{Shaped, plain-shaped, fourth-shaped, leap-by-shaped, islamic-shaped, hebrew-shaped}
 use Rattle.rows.specs.declared.LeapRule.{LeapRule}
 use Rattle.rows.specs.declared.LeapRule.the-variants as R

@@ -103,10 +103,7 @@ fn day_in(m: Month, day: u64) -> Day
     requires { ⌜ (m .start ≤ 20000000) × (m .days ≤ 385) ⌝ }
     ensures { λ r. ⌜ dayPaper r ≡ dayIn (m .start) (m .days) day ⌝ }
 {
-    if day == 0 {
-        return Day::Refused(Refusal::NoSuchDay);
-    }
-    if m.days < day {
+    if (day == 0) | (m.days < day) {
         return Day::Refused(Refusal::NoSuchDay);
     }
     let n = m.start + (day - 1);
