@@ -1,8 +1,10 @@
 -- `calendars::month_in` meets its contract.
-use mathlib.Core.Path.{refl, _∙_}
+use mathlib.Core.Path.{_≡_, refl, sym, _∙_}
 use Prim.Native.Nat.{_-_}
 use native.Mathlib.Omega.{arith}
 use borrow.Author.Tests.{eq-eqb, ne-eqb}
+use Rattle.counting.specs.Calendar.{len}
+use Rattle.calendar_rules.specs.Shapes.{shape}
 use Rattle.calendar_rules.proofs.Bounds.{start-within}
 use Rattle.calendar_rules.proofs.Tables.{before-small}
 use Rattle.calendars.proofs.ByRow.{shaped}
@@ -28,7 +30,8 @@ returns-2 c =
     let l = c .before in
     let y = l .before .before in
     let s = y .before .before in
-    rw (ne-eqb _ _ (y .before .if1 .left), len-is (y .year-at .ensures) (s .args .month), ← l .length-at .ensures, eq-eqb _ _ (c .if2 .taken)) refl
+    let none : len (shape (y .year-at .result .shape)) (s .args .month) ≡ 0 = sym (l .length-at .ensures) ∙ c .if2 .taken in
+    rw (ne-eqb _ _ (y .before .if1 .left), len-is (y .year-at .ensures) (s .args .month), eq-eqb _ _ none) refl
 
 add-start : tie.Need-add-start
 add-start c =

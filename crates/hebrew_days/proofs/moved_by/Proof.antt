@@ -26,19 +26,19 @@ third-applies-requires c κs = search needs
 
 returns : tie.Need-returns
 unfolding moved
-returns c = (rw (le-leb 19440 (entry (c .before) .args .hour) (c .if1 .taken)) refl, omega arith)
+returns c = (rw (le-leb 19440 (entry (c .before) .args .hour) (omega (arith, c .if1 .taken))) refl, omega arith)
 
 returns-2 : tie.Need-returns-2
 unfolding moved
-returns-2 c = (rw (lt-leb 19440 (entry (c .before .before) .args .hour) (c .before .if1 .left), second-is (c .before .before), c .if2 .taken) refl, omega arith)
+returns-2 c = (rw (lt-leb 19440 (entry (c .before .before) .args .hour) (omega (arith, c .before .if1 .left)), second-is (c .before .before), c .if2 .taken) refl, omega arith)
 
 returns-3 : tie.Need-returns-3
 unfolding moved
-returns-3 c = let a = c .before .before .before in (rw (lt-leb 19440 (entry a .args .hour) (c .before .before .if1 .left), second-is a, c .before .if2 .left, third-is a, c .if3 .taken) refl, omega arith)
+returns-3 c = let a = c .before .before .before in (rw (lt-leb 19440 (entry a .args .hour) (omega (arith, c .before .before .if1 .left)), second-is a, c .before .if2 .left, third-is a, c .if3 .taken) refl, omega arith)
 
 returns-4 : tie.Need-returns-4
 unfolding moved
-returns-4 c = let a = c .before .before .before in (rw (lt-leb 19440 (entry a .args .hour) (c .before .before .if1 .left), second-is a, c .before .if2 .left, third-is a, c .if3 .left) (omega arith), omega arith)
+returns-4 c = let a = c .before .before .before in (rw (lt-leb 19440 (entry a .args .hour) (omega (arith, c .before .before .if1 .left)), second-is a, c .before .if2 .left, third-is a, c .if3 .left) (omega arith), omega arith)
 
 pub moved-by-spec : {M : Type 1} → statement M
 moved-by-spec =
