@@ -8,9 +8,9 @@
  * calendar with 1, a month with 3, a day of the month with 4, a day number with 5, a count to unfold with 6, an a, b or r with 10. Years are
  * signed, and year 0 exists.
  *
- * Memory. A slice is a pointer and then its number of elements. They must be there, aligned, and be changed by no other thread during the
+ * Memory. A slice is a pointer and then its number of elements. They must be there, aligned, and not be changed by another thread during the
  * call; a length that is not true is the one thing that cannot be refused. Nothing outside the slice is read or written. Where the length is 0
- * the pointer is not followed and may be anything, null too.
+ * the pointer is not followed, and may be null.
  *
  * The functions keep nothing between calls and allocate nothing; threads may call them at the same time. */
 #ifndef IJOK_H

@@ -243,6 +243,7 @@ void compare_codes() {
     // outside the limits: no lengths, too many, a length too large anywhere
     report.same(fitted({}), 6, "fit of no lengths");
     report.same(fitted({}, false), 6, "fit of no lengths");
+    report.same(ijok_fit(nullptr, 0), 6, "fit of no lengths at a null pointer");
     for (size_t n = 513; n <= 1200; ++n) report.same(fitted(Code(n, n % 401)), 6, "fit of %zu equal lengths", n);
     for (uint64_t big : {uint64_t(401), uint64_t(402), uint64_t(512), uint64_t(65536), (uint64_t(1) << 32) + 30, uint64_t(1) << 63, std::numeric_limits<uint64_t>::max() - 1, std::numeric_limits<uint64_t>::max()})
         for (size_t n : {1, 2, 3, 10, 511, 512, 513})
@@ -295,8 +296,10 @@ void compare_unfolding() {
     for (uint64_t b : {uint64_t(0), uint64_t(1), uint64_t(2), uint64_t(30), uint64_t(511), uint64_t(512), uint64_t(513), uint64_t(1024), uint64_t(1) << 32, uint64_t(1) << 63, top - 1, top})
         for (uint64_t a : {uint64_t(0), uint64_t(1), b, 30 * b, 400 * b - 1, 400 * b, 400 * b + 1, uint64_t(204800), uint64_t(204801), uint64_t(1) << 63, top - 1, top})
             for (uint64_t r : {uint64_t(0), uint64_t(1), b - 1, b, b + 1, top})
-                for (uint64_t count : {uint64_t(0), uint64_t(1), uint64_t(2), uint64_t(511), uint64_t(512), uint64_t(513), (uint64_t(1) << 32) + 1, uint64_t(1) << 63, top})
+                for (uint64_t count : {uint64_t(0), uint64_t(1), uint64_t(2), uint64_t(511), uint64_t(512), uint64_t(513), (uint64_t(1) << 32) + 1, uint64_t(1) << 63, top}) {
                     for (size_t room : {0, 1, 2, 510, 511, 512, 513, 600}) unfold(a, b, r, count, room, (a + room) % 2 == 0);
+                    report.same(ijok_unfold(a, b, r, size_t(count), nullptr, 0), unfold_number(a, b, r, count, 0), "unfold at a null pointer");
+                }
     report.line("unfolding at and beyond every limit: the number, and the whole guarded memory");
 
     Random random{30};

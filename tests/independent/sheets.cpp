@@ -244,6 +244,7 @@ void compare_lines() {
             }
     }
     for (size_t n = 0; n <= 4096; n += n < 40 ? 1 : 97) verdict(std::string(n, '0'), n % 2);
+    report.same(ijok_verdict(nullptr, 0), 8, "verdict on an empty line at a null pointer");
     report.line("sheet lines in guarded memory: right, damaged, of any bytes and lengths; any byte in any place of a frame");
 
     for (int k = 0; k < 3000000; ++k) quick_verdict(random_line(random));
