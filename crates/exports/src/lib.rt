@@ -100,11 +100,11 @@ fn date_fields(answer: Dated) -> DateFields
     ensures { λ r. ⌜ dateFields r ≡ datePaper answer ⌝ }
 {
     match answer {
-        Dated::On(d) => DateFields {
+        Dated::On(date) => DateFields {
             number: 0,
-            year: d.year,
-            month: d.month,
-            day: d.day,
+            year: date.year,
+            month: date.month,
+            day: date.day,
         },
         Dated::Refused(why) => DateFields {
             number: number_of(why),
@@ -147,10 +147,10 @@ fn easter_fields(answer: EasterDate) -> EasterFields
     ensures { λ r. ⌜ easterFields r ≡ easterPaper answer ⌝ }
 {
     match answer {
-        EasterDate::On(d) => EasterFields {
+        EasterDate::On(feast) => EasterFields {
             number: 0,
-            month: d.month,
-            day: d.day,
+            month: feast.month,
+            day: feast.day,
         },
         EasterDate::Refused(why) => EasterFields {
             number: number_of(why),
@@ -172,11 +172,11 @@ fn line_fields(answer: Fitted) -> LineFields
     ensures { λ r. ⌜ lineFields r ≡ fitPaper answer ⌝ }
 {
     match answer {
-        Fitted::By(l) => LineFields {
+        Fitted::By(line) => LineFields {
             number: 0,
-            a: l.a,
-            b: l.b,
-            r: l.r,
+            a: line.a,
+            b: line.b,
+            r: line.r,
         },
         Fitted::Refused(why) => LineFields {
             number: number_of(why),
