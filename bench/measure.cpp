@@ -18,7 +18,7 @@
 #include "../include/ijok.h"
 #include "../tests/independent/random.h"
 
-extern "C" uint64_t plain_fit(const uint64_t *code, size_t count);
+extern "C" ijok_line plain_fit(const uint64_t *code, size_t count);
 
 namespace {
 
@@ -84,50 +84,50 @@ const std::vector<Row> ROWS = {{1, "Egyptian", 1448638},  {2, "Armenian", 192286
                                {9, "Syrian", 1607739},    {10, "Julian", 0},          {11, "Gregorian", 38},       {12, "Islamic A", 1948439},
                                {13, "Islamic B", 1948440}, {14, "Bahai", 2394647},    {15, "Saka", 1749995},       {18, "Hebrew", 347998}};
 
-struct Date {
-    int64_t year;
-    uint64_t month, day;
-};
-
-inline uint64_t chrono_date(uint64_t n) {
+inline ijok_date chrono_date(uint64_t n) {
     std::chrono::year_month_day d{std::chrono::sys_days{std::chrono::days{int64_t(n) - EPOCH}}};
-    return (uint64_t(int(d.year()) + 4712) << 32) + (uint64_t(unsigned(d.month())) << 16) + unsigned(d.day());
+    return {0, int(d.year()), unsigned(d.month()), unsigned(d.day())};
 }
 
-inline uint64_t chrono_day(const Date &d) {
-    std::chrono::year_month_day date{std::chrono::year{int(d.year)}, std::chrono::month{unsigned(d.month)}, std::chrono::day{unsigned(d.day)}};
-    return uint64_t(std::chrono::sys_days{date}.time_since_epoch().count() + EPOCH);
+inline ijok_day chrono_day(int64_t year, uint64_t month, uint64_t day) {
+    std::chrono::year_month_day date{std::chrono::year{int(year)}, std::chrono::month{unsigned(month)}, std::chrono::day{unsigned(day)}};
+    return {0, uint64_t(std::chrono::sys_days{date}.time_since_epoch().count() + EPOCH)};
 }
 
 // As a caller of a library would reach it.
-__attribute__((noinline)) uint64_t chrono_date_called(uint64_t n) {
+__attribute__((noinline)) ijok_date chrono_date_called(uint64_t n) {
     asm volatile("");
     return chrono_date(n);
 }
 
-__attribute__((noinline)) uint64_t chrono_day_called(int64_t year, uint64_t month, uint64_t day) {
+__attribute__((noinline)) ijok_day chrono_day_called(int64_t year, uint64_t month, uint64_t day) {
     asm volatile("");
-    return chrono_day({year, month, day});
+    return chrono_day(year, month, day);
 }
 
 // The same with the date checked, as ours checks it: 4 where the year has no such day, 5 past the last day.
-__attribute__((noinline)) uint64_t chrono_day_checked(int64_t year, uint64_t month, uint64_t day) {
-    if (year < -4712 || year > 20000) return uint64_t(2) << 32;
-    if (month < 1 || month > 12) return uint64_t(3) << 32;
+__attribute__((noinline)) ijok_day chrono_day_checked(int64_t year, uint64_t month, uint64_t day) {
+    if (year < -4712 || year > 20000) return {2, 0};
+    if (month < 1 || month > 12) return {3, 0};
     std::chrono::year_month_day date{std::chrono::year{int(year)}, std::chrono::month{unsigned(month)}, std::chrono::day{unsigned(day)}};
-    if (day > 31 || !date.ok()) return uint64_t(4) << 32;
+    if (day > 31 || !date.ok()) return {4, 0};
     uint64_t n = uint64_t(std::chrono::sys_days{date}.time_since_epoch().count() + EPOCH);
-    return n > LAST_DAY ? uint64_t(5) << 32 : n;
+    if (n > LAST_DAY) return {5, 0};
+    return {0, n};
 }
 
-Date unpacked(uint64_t p) { return {int64_t(p >> 32 & 0xffff) - 4712, p >> 16 & 0xffff, p & 0xffff}; }
+// Every field of an answer is read.
+inline uint64_t sum(const ijok_day &x) { return x.number + x.day; }
+inline uint64_t sum(const ijok_date &x) { return x.number + uint64_t(x.year) + x.month + x.day; }
+inline uint64_t sum(const ijok_line &x) { return x.number + x.a + x.b + x.r; }
+inline uint64_t sum(uint64_t x) { return x; }
 
 template <class F, class T>
 std::function<uint64_t()> over(const std::vector<T> &inputs, F f) {
     return [&inputs, f] {
-        uint64_t sum = 0;
-        for (const T &x : inputs) sum += f(x);
-        return sum;
+        uint64_t all = 0;
+        for (const T &x : inputs) all += sum(f(x));
+        return all;
     };
 }
 
@@ -140,19 +140,21 @@ void conversions() {
     Random random{1};
     for (const Row &row : ROWS) {
         std::vector<uint64_t> days;
-        std::vector<Date> dates, gregorian;
+        std::vector<ijok_date> dates, gregorian;
         uint64_t c = row.number;
         for (int k = 0; k < COUNT; ++k) {
             uint64_t n = random.between(row.first_day, LAST_DAY);
             days.push_back(n);
-            dates.push_back(unpacked(ijok_day_to_date(c, n)));
-            gregorian.push_back(unpacked(chrono_date(n)));
-            if (ijok_date_to_day(c, dates.back().year, dates.back().month, dates.back().day) != n) std::printf("calendar %" PRIu64 " disagrees with itself on day %" PRIu64 "\n", c, n);
-            if (c == 11 && ijok_day_to_date(c, n) != chrono_date(n)) std::printf("chrono disagrees on day %" PRIu64 "\n", n);
+            ijok_date date = ijok_day_to_date(c, n), by_chrono = chrono_date(n);
+            dates.push_back(date);
+            gregorian.push_back(by_chrono);
+            ijok_day back = ijok_date_to_day(c, date.year, date.month, date.day);
+            if (date.number || back.number || back.day != n) std::printf("calendar %" PRIu64 " disagrees with itself on day %" PRIu64 "\n", c, n);
+            if (c == 11 && (date.year != by_chrono.year || date.month != by_chrono.month || date.day != by_chrono.day)) std::printf("chrono disagrees on day %" PRIu64 "\n", n);
         }
         Race to_date{{over(days, [c](uint64_t n) { return ijok_day_to_date(c, n); }), over(days, [](uint64_t n) { return chrono_date(n); }), over(days, [](uint64_t n) { return chrono_date_called(n); })}};
-        Race to_day{{over(dates, [c](const Date &d) { return ijok_date_to_day(c, d.year, d.month, d.day); }), over(gregorian, [](const Date &d) { return chrono_day(d); }),
-                     over(gregorian, [](const Date &d) { return chrono_day_called(d.year, d.month, d.day); }), over(gregorian, [](const Date &d) { return chrono_day_checked(d.year, d.month, d.day); })}};
+        Race to_day{{over(dates, [c](const ijok_date &d) { return ijok_date_to_day(c, d.year, d.month, d.day); }), over(gregorian, [](const ijok_date &d) { return chrono_day(d.year, d.month, d.day); }),
+                     over(gregorian, [](const ijok_date &d) { return chrono_day_called(d.year, d.month, d.day); }), over(gregorian, [](const ijok_date &d) { return chrono_day_checked(d.year, d.month, d.day); })}};
         auto there = to_date.medians(ROUNDS, COUNT), back = to_day.medians(ROUNDS, COUNT);
         called_there.push_back(there.times[2]);
         called_back.push_back(back.times[2]);
@@ -178,8 +180,8 @@ Code accepted(Random &random) {
     while (true) {
         uint64_t b = random.between(257, 512);
         Code code = line_code(random.between(0, 399 * b), b, random.between(0, b - 1));
-        uint64_t fit = ijok_fit(code.data(), 512);
-        if (fit >> 48 == 0 && (fit >> 12 & 0xfff) > 256) return code;
+        ijok_line fit = ijok_fit(code.data(), 512);
+        if (fit.number == IJOK_DONE && fit.b > 256) return code;
     }
 }
 
@@ -188,7 +190,7 @@ Code refused(Random &random) {
     while (true) {
         Code code = accepted(random);
         code[511] = code[511] == 0 || random.next() % 2 ? code[511] + 1 : code[511] - 1;
-        if (ijok_fit(code.data(), 511) >> 48 == 0 && ijok_fit(code.data(), 512) >> 48 == 7) return code;
+        if (ijok_fit(code.data(), 511).number == IJOK_DONE && ijok_fit(code.data(), 512).number == IJOK_NO_LINE) return code;
     }
 }
 
@@ -202,7 +204,8 @@ void fits() {
         std::vector<Code> codes;
         for (int k = 0; k < COUNT; ++k) {
             codes.push_back(good ? accepted(random) : refused(random));
-            if (ijok_fit(codes.back().data(), 512) != plain_fit(codes.back().data(), 512)) std::printf("the fitters disagree\n");
+            ijok_line ours = ijok_fit(codes.back().data(), 512), plain = plain_fit(codes.back().data(), 512);
+            if (ours.number != plain.number || ours.a != plain.a || ours.b != plain.b || ours.r != plain.r) std::printf("the fitters disagree\n");
         }
         Race race{{over(codes, [](const Code &c) { return ijok_fit(c.data(), c.size()); }), over(codes, [](const Code &c) { return plain_fit(c.data(), c.size()); })}};
         auto t = race.medians(ROUNDS, COUNT);
@@ -216,7 +219,7 @@ void fits() {
 constexpr int FRAMES = 3000000;
 
 void write_frame(FILE *f, uint64_t calendar, uint64_t n) {
-    Date d = unpacked(ijok_day_to_date(calendar, n));
+    ijok_date d = ijok_day_to_date(calendar, n);
     std::fprintf(f, "%02" PRIx64 "%04" PRIx64 "%02" PRIx64 "%02" PRIx64 "%06" PRIx64 "\n", calendar, uint64_t(d.year + 4712), d.month, d.day, n);
 }
 

@@ -3,9 +3,22 @@
 
 const MOST: usize = 512;
 
-fn fit(code: &[u64]) -> u64 {
+/// `struct ijok_line`
+#[repr(C)]
+pub struct Line {
+    number: u64,
+    a: u64,
+    b: u64,
+    r: u64,
+}
+
+fn refused(number: u64) -> Line {
+    Line { number, a: 0, b: 0, r: 0 }
+}
+
+fn fit(code: &[u64]) -> Line {
     if code.is_empty() || code.len() > MOST || code.iter().any(|&length| length > 400) {
-        return 6 << 48;
+        return refused(6);
     }
     let mut marks = [0i64; MOST + 1];
     for (k, &length) in code.iter().enumerate() {
@@ -24,14 +37,14 @@ fn fit(code: &[u64]) -> u64 {
                 continue 'denominators;
             }
         }
-        return ((a as u64) << 24) + ((b as u64) << 12) + low as u64;
+        return Line { number: 0, a: a as u64, b: b as u64, r: low as u64 };
     }
-    7 << 48
+    refused(7)
 }
 
 /// # Safety
 /// `code` points to `count` numbers.
 #[no_mangle]
-pub unsafe extern "C" fn plain_fit(code: *const u64, count: usize) -> u64 {
+pub unsafe extern "C" fn plain_fit(code: *const u64, count: usize) -> Line {
     fit(std::slice::from_raw_parts(code, count))
 }

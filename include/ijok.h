@@ -1,7 +1,18 @@
-/* The exported functions of crate exports, for C and C++. Link target/staticlib/libexports.a, which `rt staticlib exports` writes.
+/* The proved functions of crate exports, for C (C99) and C++. Link target/staticlib/libexports.a, which `rt staticlib exports` writes.
  *
- * Every argument is allowed; an answer's fields are packed into one number (crates/exports/specs/Packed.antt), and the macros below take them out again.
- * A slice passes as a pointer and a length; the pointer is never null, also where the length is 0. */
+ * An answer is a struct by value: first the answer number, 0 (IJOK_DONE) or why it is refused, then the values. A refusal has 0 in every
+ * other field and changes no lent memory. So test the number before a value is used.
+ *
+ * Numbers. Every value of every number parameter is allowed and gets its answer: nothing is narrowed before it is tested. A negative number
+ * that is passed for an unsigned parameter arrives as one above 2^63, beyond every limit, and is refused as too large a number is: a
+ * calendar with 1, a month with 3, a day of the month with 4, a day number with 5, a count to unfold with 6, an a, b or r with 10. Years are
+ * signed, and year 0 exists.
+ *
+ * Memory. A slice is a pointer and then its number of elements. They must be there, aligned, and not be changed by another thread during the
+ * call; a length that is not true is the one thing that cannot be refused. Nothing outside the slice is read or written. Where the length is 0
+ * the pointer is not followed, and may be null.
+ *
+ * The functions keep nothing between calls and allocate nothing; threads may call them at the same time. */
 #ifndef IJOK_H
 #define IJOK_H
 
@@ -12,25 +23,124 @@
 extern "C" {
 #endif
 
-/* number * 2^32 + day */
-uint64_t ijok_date_to_day(uint64_t calendar, int64_t year, uint64_t month, uint64_t day);
+/* The calendars. The first day is that of 1/1 of the first year.
+ *
+ *   number  calendar             first year   first day
+ *      1    Egyptian                      1     1448638
+ *      2    Armenian                      1     1922868
+ *      3    Khwarizmian                   1     1952068
+ *      4    Persian (Yazdegerd)           1     1952063
+ *      5    Ethiopian                     1     1724221
+ *      6    Coptic                        1     1825030
+ *      7    Republican                    1     2375840
+ *      8    Macedonian                    1     1607709
+ *      9    Syrian                        1     1607739
+ *     10    Julian                    -4712           0
+ *     11    Gregorian                 -4712          38
+ *     12    Islamic A                     1     1948439
+ *     13    Islamic B                     1     1948440
+ *     14    Bahai                         1     2394647
+ *     15    Saka                          1     1749995
+ *     18    Hebrew                        1      347998
+ */
+enum ijok_calendar {
+    IJOK_EGYPTIAN = 1,
+    IJOK_ARMENIAN = 2,
+    IJOK_KHWARIZMIAN = 3,
+    IJOK_PERSIAN = 4,
+    IJOK_ETHIOPIAN = 5,
+    IJOK_COPTIC = 6,
+    IJOK_REPUBLICAN = 7,
+    IJOK_MACEDONIAN = 8,
+    IJOK_SYRIAN = 9,
+    IJOK_JULIAN = 10,
+    IJOK_GREGORIAN = 11,
+    IJOK_ISLAMIC_A = 12,
+    IJOK_ISLAMIC_B = 13,
+    IJOK_BAHAI = 14,
+    IJOK_SAKA = 15,
+    IJOK_HEBREW = 18
+};
 
-/* number * 2^48 + (year + 4712) * 2^32 + month * 2^16 + day; in a refusal number * 2^48 */
-uint64_t ijok_day_to_date(uint64_t calendar, uint64_t day);
+/* A day number is the Julian day number. The last one is 31 December 9999 Gregorian. */
+enum { IJOK_LAST_DAY = 5373484 };
 
-/* number * 2^32 + days */
-uint64_t ijok_position_length(uint64_t calendar, int64_t year, uint64_t position);
+/* The answer numbers. Each function below says which ones it tries, in what order; the first that applies is given, and 0 where none does. */
+enum ijok_answer {
+    IJOK_DONE = 0,
+    IJOK_UNKNOWN_CALENDAR = 1,    /* the calendar's number is not listed above; for Easter, it is not 10 or 11 */
+    IJOK_YEAR_OUT_OF_RANGE = 2,   /* the year is below the calendar's first or above 20,000; for Easter, outside its years */
+    IJOK_NO_SUCH_MONTH = 3,       /* the month is 0, above the positions, or of no days that year */
+    IJOK_NO_SUCH_DAY = 4,         /* the day is 0 or beyond the month */
+    IJOK_DAY_OUT_OF_RANGE = 5,    /* the day number is above IJOK_LAST_DAY or before the calendar's first day */
+    IJOK_CODE_OUT_OF_LIMITS = 6,  /* no lengths, more than 512, or one above 400; a count to unfold that is not 1 to 512 */
+    IJOK_NO_LINE = 7,             /* the code is within the limits, and no line generates it */
+    IJOK_MALFORMED_FRAME = 8,     /* the line of a sheet is not 16 lowercase hexadecimal digits */
+    IJOK_WRONG_DAY = 9,           /* the frame's date is good, and its day number differs */
+    IJOK_LINE_OUT_OF_LIMITS = 10, /* the line to unfold has not b from 1 to 512, r from 0 to b - 1 and a from 0 to 400 b */
+    IJOK_BUFFER_TOO_SHORT = 11    /* the buffer has less room than the count */
+};
 
-/* number * 2^32 + month * 2^16 + day */
-uint64_t ijok_easter(uint64_t calendar, int64_t year);
+struct ijok_day {
+    uint64_t number;
+    uint64_t day;
+};
 
-/* number * 2^48 + a * 2^24 + b * 2^12 + r */
-uint64_t ijok_fit(const uint64_t *code, size_t count);
+struct ijok_date {
+    uint64_t number;
+    int64_t year;
+    uint64_t month;
+    uint64_t day;
+};
 
-/* the number; the buffer's front holds the lengths, or in a refusal nothing in it has changed */
+struct ijok_length {
+    uint64_t number;
+    uint64_t days;
+};
+
+struct ijok_easter {
+    uint64_t number;
+    uint64_t month;
+    uint64_t day;
+};
+
+struct ijok_line {
+    uint64_t number;
+    uint64_t a;
+    uint64_t b;
+    uint64_t r;
+};
+
+/* The day number of a date. Tries 1, 2, 3, 4, 5. */
+struct ijok_day ijok_date_to_day(uint64_t calendar, int64_t year, uint64_t month, uint64_t day);
+
+/* The date of a day number. Tries 1, 5. */
+struct ijok_date ijok_day_to_date(uint64_t calendar, uint64_t day);
+
+/* The days of a position of a year: a month, or days between two months. Tries 1, 2, 3. */
+struct ijok_length ijok_position_length(uint64_t calendar, int64_t year, uint64_t position);
+
+/* The date of Easter by calendar 10, in years 1 to 9,999, or 11, in years 1,583 to 9,999. Tries 1, 2. The function hides the struct's name from
+ * C++, where the type is written `struct ijok_easter` as in C. */
+#if defined(__cplusplus) && defined(__GNUC__)
+#pragma GCC diagnostic push
+#pragma GCC diagnostic ignored "-Wshadow"
+#endif
+struct ijok_easter ijok_easter(uint64_t calendar, int64_t year);
+#if defined(__cplusplus) && defined(__GNUC__)
+#pragma GCC diagnostic pop
+#endif
+
+/* The line with the least denominator b that generates a code of `count` lengths: at each place k, counted from 0, the length is
+ * (a(k + 1) + r)/b less (ak + r)/b, both rounded down. r is from 0 to b - 1. Tries 6, 7. */
+struct ijok_line ijok_fit(const uint64_t *code, size_t count);
+
+/* Writes the first `count` lengths that a line yields to the front of a buffer that has room for `room`, and returns the answer number. What
+ * lies past the count stays; a refusal changes nothing. Tries 10, 6, 11. */
 uint64_t ijok_unfold(uint64_t a, uint64_t b, uint64_t r, size_t count, uint64_t *buffer, size_t room);
 
-/* the number that a sheet gives the line, whose newline is not part of it */
+/* The answer number that a sheet gives a line of `length` bytes, its newline not counted. A frame is 16 digits: calendar 2, year plus 4,712 as 4, month
+ * 2, day of month 2, day number 6, high digit first. 8 for any other line; for a frame tries 1, 2, 3, 4, 5, 9. */
 uint64_t ijok_verdict(const uint8_t *line, size_t length);
 
 #ifdef __cplusplus

@@ -214,23 +214,23 @@ bool listed(uint64_t calendar) {
     return false;
 }
 
-uint64_t naive_position_length(uint64_t calendar, int64_t year, uint64_t position) {
-    if (!listed(calendar)) return uint64_t(1) << 32;
+ijok_length naive_position_length(uint64_t calendar, int64_t year, uint64_t position) {
+    if (!listed(calendar)) return {1, 0};
     const Almanac &a = almanac(calendar);
-    if (year < a.first_year || year > LAST_YEAR) return uint64_t(2) << 32;
+    if (year < a.first_year || year > LAST_YEAR) return {2, 0};
     const Lengths &l = a.year(year);
-    if (position < 1 || position > l.size() || l[position - 1] == 0) return uint64_t(3) << 32;
-    return uint64_t(l[position - 1]);
+    if (position < 1 || position > l.size() || l[position - 1] == 0) return {3, 0};
+    return {0, uint64_t(l[position - 1])};
 }
 
-uint64_t naive_date_to_day(uint64_t calendar, int64_t year, uint64_t month, uint64_t day) {
-    uint64_t days = naive_position_length(calendar, year, month);
-    if (days >> 32) return days;
-    if (day < 1 || day > days) return uint64_t(4) << 32;
+ijok_day naive_date_to_day(uint64_t calendar, int64_t year, uint64_t month, uint64_t day) {
+    ijok_length length = naive_position_length(calendar, year, month);
+    if (length.number) return {length.number, 0};
+    if (day < 1 || day > length.days) return {4, 0};
     const Almanac &a = almanac(calendar);
     int64_t n = a.begins[year - a.first_year];
     for (uint64_t p = 1; p < month; ++p) n += a.year(year)[p - 1];
     n += int64_t(day) - 1;
-    if (n > LAST_DAY) return uint64_t(5) << 32;
-    return uint64_t(n);
+    if (n > LAST_DAY) return {5, 0};
+    return {0, uint64_t(n)};
 }

@@ -3,6 +3,8 @@
 #include <cstdint>
 #include <vector>
 
+#include "../../include/ijok.h"
+
 constexpr int64_t LAST_DAY = 5373484;
 constexpr int64_t LAST_YEAR = 20000;
 extern const std::vector<uint64_t> LISTED;
@@ -22,9 +24,8 @@ const Almanac &almanac(uint64_t calendar);
 
 bool listed(uint64_t calendar);
 
-// Packed as the exported functions pack them.
-uint64_t naive_date_to_day(uint64_t calendar, int64_t year, uint64_t month, uint64_t day);
-uint64_t naive_position_length(uint64_t calendar, int64_t year, uint64_t position);
+ijok_day naive_date_to_day(uint64_t calendar, int64_t year, uint64_t month, uint64_t day);
+ijok_length naive_position_length(uint64_t calendar, int64_t year, uint64_t position);
 
 void compare_calendars();
 void compare_easter();

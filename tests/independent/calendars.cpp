@@ -2,7 +2,6 @@
 #include <cinttypes>
 #include <limits>
 
-#include "../../include/ijok.h"
 #include "almanac.h"
 #include "report.h"
 
@@ -14,17 +13,15 @@ constexpr int64_t MOST = std::numeric_limits<int64_t>::max();
 
 const std::vector<uint64_t> UNLISTED = {0, 16, 17, 19, 20, 21, 31, 32, 64, 127, 128, 255, 256, 266, 65536 + 11, (uint64_t(1) << 32) + 11, uint64_t(1) << 63, TOP - 1, TOP};
 
-uint64_t packed_date(int64_t year, uint64_t month, uint64_t day) { return (uint64_t(year + 4712) << 32) + (month << 16) + day; }
-
 // From the calendar's first day to the last, counted one by one: each day's date, and that date's day.
 void days_of(uint64_t c) {
     const Almanac &a = almanac(c);
-    for (int64_t n = 0; n < a.first_day; ++n) report.same(ijok_day_to_date(c, n), uint64_t(5) << 48, "day to date, calendar %" PRIu64 ", day %" PRId64, c, n);
+    for (int64_t n = 0; n < a.first_day; ++n) report.same(ijok_day_to_date(c, n), 5, "day to date, calendar %" PRIu64 ", day %" PRId64, c, n);
     int64_t year = a.first_year;
     uint64_t month = 1, day = 1;
     for (int64_t n = a.first_day; n <= LAST_DAY; ++n) {
-        report.same(ijok_day_to_date(c, n), packed_date(year, month, day), "day to date, calendar %" PRIu64 ", day %" PRId64, c, n);
-        report.same(ijok_date_to_day(c, year, month, day), n, "date to day, calendar %" PRIu64 ", %" PRId64 "/%" PRIu64 "/%" PRIu64, c, year, month, day);
+        report.same(ijok_day_to_date(c, n), ijok_date{0, year, month, day}, "day to date, calendar %" PRIu64 ", day %" PRId64, c, n);
+        report.same(ijok_date_to_day(c, year, month, day), ijok_day{0, uint64_t(n)}, "date to day, calendar %" PRIu64 ", %" PRId64 "/%" PRIu64 "/%" PRIu64, c, year, month, day);
         // the next day: of this position, of the next one that has days, of the next year
         if (day < uint64_t(a.year(year)[month - 1])) {
             ++day;
@@ -44,10 +41,10 @@ void days_of(uint64_t c) {
 void days_outside() {
     const std::vector<uint64_t> late = {LAST_DAY + 1, LAST_DAY + 2, LAST_DAY + 366, 9000000, uint64_t(1) << 31, uint64_t(1) << 32, (uint64_t(1) << 32) + 2451545, uint64_t(1) << 63, TOP - 1, TOP};
     for (uint64_t c : LISTED)
-        for (uint64_t n : late) report.same(ijok_day_to_date(c, n), uint64_t(5) << 48, "day to date, calendar %" PRIu64 ", day %" PRIu64, c, n);
+        for (uint64_t n : late) report.same(ijok_day_to_date(c, n), 5, "day to date, calendar %" PRIu64 ", day %" PRIu64, c, n);
     for (uint64_t c : UNLISTED) {
-        for (uint64_t n : late) report.same(ijok_day_to_date(c, n), uint64_t(1) << 48, "day to date, calendar %" PRIu64 ", day %" PRIu64, c, n);
-        for (uint64_t n : {0, 1, 38, 347998, 2451545, 5373484}) report.same(ijok_day_to_date(c, n), uint64_t(1) << 48, "day to date, calendar %" PRIu64 ", day %" PRIu64, c, n);
+        for (uint64_t n : late) report.same(ijok_day_to_date(c, n), 1, "day to date, calendar %" PRIu64 ", day %" PRIu64, c, n);
+        for (uint64_t n : {0, 1, 38, 347998, 2451545, 5373484}) report.same(ijok_day_to_date(c, n), 1, "day to date, calendar %" PRIu64 ", day %" PRIu64, c, n);
     }
 }
 
@@ -96,7 +93,7 @@ void compare_calendars() {
     for (uint64_t c : LISTED)
         for (int64_t y = almanac(c).first_year; y <= LAST_YEAR; ++y)
             for (uint64_t p = 0; p <= almanac(c).year(y).size() + 1; ++p) {
-                uint64_t days = naive_position_length(c, y, p) & 0xffffffff;
+                uint64_t days = naive_position_length(c, y, p).days;
                 date_at(c, y, p, 0);
                 date_at(c, y, p, 1);
                 date_at(c, y, p, days);

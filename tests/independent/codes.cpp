@@ -4,7 +4,6 @@
 #include <limits>
 #include <string>
 
-#include "../../include/ijok.h"
 #include "almanac.h"
 #include "guarded.h"
 #include "report.h"
@@ -18,7 +17,7 @@ struct Line {
     int64_t a, b, r;
 };
 
-uint64_t packed(const Line &l) { return (uint64_t(l.a) << 24) + (uint64_t(l.b) << 12) + uint64_t(l.r); }
+ijok_line answer(const Line &l) { return {0, uint64_t(l.a), uint64_t(l.b), uint64_t(l.r)}; }
 
 Wide floor_div(Wide z, Wide b) { return z >= 0 ? z / b : -((-z + b - 1) / b); }
 
@@ -96,9 +95,9 @@ Guarded<uint64_t> &memory() {
     return m;
 }
 
-uint64_t fitted(const Code &code, bool at_end = true) {
+ijok_line fitted(const Code &code, bool at_end = true) {
     uint64_t *s = memory().copy(code, at_end);
-    uint64_t got = ijok_fit(s, code.size());
+    ijok_line got = ijok_fit(s, code.size());
     report.same(memory().unchanged(), true, "the lent code after fitting %s", shown(code).c_str());
     --report.compared;
     return got;
@@ -110,13 +109,13 @@ struct Tally {
 
 // The answer for a code within the limits.
 void compare_fit(const Code &code, const Search &found, Tally &tally) {
-    uint64_t expected = uint64_t(7) << 48;
+    Fields expected = 7;
     if (found.lines.empty()) {
         ++tally.refused;
     } else {
         ++tally.accepted;
         if (found.lines[0].b > 256) ++tally.steep;
-        expected = packed(found.lines[0]);
+        expected = answer(found.lines[0]);
         report.same(found.lines.size(), 1, "lines with the least denominator of %s", shown(code).c_str());
         report.same(generates(found.lines[0], code), true, "the line by the definition, %s", shown(code).c_str());
         report.compared -= 2;
@@ -242,22 +241,22 @@ void compare_codes() {
     tallied(loose, "codes of random lengths");
 
     // outside the limits: no lengths, too many, a length too large anywhere
-    const uint64_t six = uint64_t(6) << 48;
-    report.same(fitted({}), six, "fit of no lengths");
-    report.same(fitted({}, false), six, "fit of no lengths");
-    for (size_t n = 513; n <= 1200; ++n) report.same(fitted(Code(n, n % 401)), six, "fit of %zu equal lengths", n);
+    report.same(fitted({}), 6, "fit of no lengths");
+    report.same(fitted({}, false), 6, "fit of no lengths");
+    report.same(ijok_fit(nullptr, 0), 6, "fit of no lengths at a null pointer");
+    for (size_t n = 513; n <= 1200; ++n) report.same(fitted(Code(n, n % 401)), 6, "fit of %zu equal lengths", n);
     for (uint64_t big : {uint64_t(401), uint64_t(402), uint64_t(512), uint64_t(65536), (uint64_t(1) << 32) + 30, uint64_t(1) << 63, std::numeric_limits<uint64_t>::max() - 1, std::numeric_limits<uint64_t>::max()})
         for (size_t n : {1, 2, 3, 10, 511, 512, 513})
             for (size_t at = 0; at < n; at += n < 20 ? 1 : 51) {
                 Code code(n, 30);
                 code[at] = big;
-                report.same(fitted(code), six, "fit of %zu lengths, %" PRIu64 " at %zu", n, big, at);
+                report.same(fitted(code), 6, "fit of %zu lengths, %" PRIu64 " at %zu", n, big, at);
                 code.assign(n, 30);
                 code[n - 1 - at] = big;
-                report.same(fitted(code, false), six, "fit of %zu lengths, %" PRIu64 " at %zu", n, big, n - 1 - at);
+                report.same(fitted(code, false), 6, "fit of %zu lengths, %" PRIu64 " at %zu", n, big, n - 1 - at);
             }
     for (uint64_t length = 0; length <= 400; ++length)
-        for (size_t n : {1, 2, 511, 512}) report.same(fitted(Code(n, length)), packed({int64_t(length), 1, 0}), "fit of %zu times %" PRIu64, n, length);
+        for (size_t n : {1, 2, 511, 512}) report.same(fitted(Code(n, length)), ijok_line{0, length, 1, 0}, "fit of %zu times %" PRIu64, n, length);
     report.line("codes at and beyond the limits, in guarded memory");
 }
 
@@ -297,8 +296,10 @@ void compare_unfolding() {
     for (uint64_t b : {uint64_t(0), uint64_t(1), uint64_t(2), uint64_t(30), uint64_t(511), uint64_t(512), uint64_t(513), uint64_t(1024), uint64_t(1) << 32, uint64_t(1) << 63, top - 1, top})
         for (uint64_t a : {uint64_t(0), uint64_t(1), b, 30 * b, 400 * b - 1, 400 * b, 400 * b + 1, uint64_t(204800), uint64_t(204801), uint64_t(1) << 63, top - 1, top})
             for (uint64_t r : {uint64_t(0), uint64_t(1), b - 1, b, b + 1, top})
-                for (uint64_t count : {uint64_t(0), uint64_t(1), uint64_t(2), uint64_t(511), uint64_t(512), uint64_t(513), (uint64_t(1) << 32) + 1, uint64_t(1) << 63, top})
+                for (uint64_t count : {uint64_t(0), uint64_t(1), uint64_t(2), uint64_t(511), uint64_t(512), uint64_t(513), (uint64_t(1) << 32) + 1, uint64_t(1) << 63, top}) {
                     for (size_t room : {0, 1, 2, 510, 511, 512, 513, 600}) unfold(a, b, r, count, room, (a + room) % 2 == 0);
+                    report.same(ijok_unfold(a, b, r, size_t(count), nullptr, 0), unfold_number(a, b, r, count, 0), "unfold at a null pointer");
+                }
     report.line("unfolding at and beyond every limit: the number, and the whole guarded memory");
 
     Random random{30};
@@ -314,9 +315,9 @@ void compare_unfolding() {
         size_t n = size_t(random.between(1, 512));
         Code code(n);
         report.same(ijok_unfold(uint64_t(a), uint64_t(b), uint64_t(r), n, code.data(), n), 0, "unfold of %" PRId64 ", %" PRId64 ", %" PRId64, a, b, r);
-        uint64_t fit = ijok_fit(code.data(), n);
-        Line l = {int64_t(fit >> 24), int64_t(fit >> 12 & 0xfff), int64_t(fit & 0xfff)};
-        report.same(fit >> 48 == 0 && l.b <= b && generates(l, code), true, "the fit of what %" PRId64 ", %" PRId64 ", %" PRId64 " unfolds to", a, b, r);
+        ijok_line fit = ijok_fit(code.data(), n);
+        Line l = {int64_t(fit.a), int64_t(fit.b), int64_t(fit.r)};
+        report.same(fit.number == 0 && l.b <= b && generates(l, code), true, "the fit of what %" PRId64 ", %" PRId64 ", %" PRId64 " unfolds to", a, b, r);
     }
     report.line("unfolded and fitted again: a line of the same code, its denominator no greater");
 }

@@ -4,14 +4,32 @@
 #include <cstdarg>
 #include <cstdint>
 #include <cstdio>
+#include "../../include/ijok.h"
 #include "random.h"
+
+// The fields of an answer, its number first; a refusal is its number alone, so that every other field is compared with 0.
+struct Fields {
+    uint64_t values[4] = {};
+
+    Fields(uint64_t number) : values{number} {}
+    Fields(ijok_day x) : values{x.number, x.day} {}
+    Fields(ijok_date x) : values{x.number, uint64_t(x.year), x.month, x.day} {}
+    Fields(ijok_length x) : values{x.number, x.days} {}
+    Fields(struct ijok_easter x) : values{x.number, x.month, x.day} {}
+    Fields(ijok_line x) : values{x.number, x.a, x.b, x.r} {}
+
+    bool operator==(const Fields &) const = default;
+    void print() const {
+        for (uint64_t v : values) std::printf(" %" PRId64, int64_t(v));
+    }
+};
 
 struct Report {
     uint64_t differences = 0;
     uint64_t compared = 0;  // since the last line
 
     // One comparison; where it fails, the first twenty say what was asked and what came.
-    void same(uint64_t got, uint64_t expected, const char *what, ...) __attribute__((format(printf, 4, 5))) {
+    void same(const Fields &got, const Fields &expected, const char *what, ...) __attribute__((format(printf, 4, 5))) {
         ++compared;
         if (got == expected) return;
         if (++differences > 20) return;
@@ -20,7 +38,11 @@ struct Report {
         va_start(values, what);
         std::vprintf(what, values);
         va_end(values);
-        std::printf(": got 0x%" PRIx64 ", expected 0x%" PRIx64 "\n", got, expected);
+        std::printf(": got");
+        got.print();
+        std::printf(", expected");
+        expected.print();
+        std::printf("\n");
     }
 
     // The line of one kind of comparison.

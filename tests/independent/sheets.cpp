@@ -5,7 +5,6 @@
 #include <cinttypes>
 #include <string>
 
-#include "../../include/ijok.h"
 #include "almanac.h"
 #include "guarded.h"
 #include "report.h"
@@ -18,9 +17,9 @@ uint64_t naive_verdict(const std::string &line) {
     for (char c : line)
         if (!((c >= '0' && c <= '9') || (c >= 'a' && c <= 'f'))) return 8;
     auto field = [&](size_t at, size_t digits) { return std::stoull(line.substr(at, digits), nullptr, 16); };
-    uint64_t answer = naive_date_to_day(field(0, 2), int64_t(field(2, 4)) - 4712, field(6, 2), field(8, 2));
-    if (answer >> 32) return answer >> 32;
-    return answer == field(10, 6) ? 0 : 9;
+    ijok_day answer = naive_date_to_day(field(0, 2), int64_t(field(2, 4)) - 4712, field(6, 2), field(8, 2));
+    if (answer.number) return answer.number;
+    return answer.day == field(10, 6) ? 0 : 9;
 }
 
 std::string frame(uint64_t calendar, int64_t year, uint64_t month, uint64_t day, uint64_t number) {
@@ -39,9 +38,9 @@ std::string right_frame(Random &random) {
         uint64_t m = uint64_t(random.between(1, int64_t(a.year(y).size())));
         if (a.year(y)[m - 1] == 0) continue;
         uint64_t d = uint64_t(random.between(1, a.year(y)[m - 1]));
-        uint64_t n = naive_date_to_day(c, y, m, d);
-        if (n >> 32) continue;
-        return frame(c, y, m, d, n);
+        ijok_day n = naive_date_to_day(c, y, m, d);
+        if (n.number) continue;
+        return frame(c, y, m, d, n.day);
     }
 }
 
@@ -245,6 +244,7 @@ void compare_lines() {
             }
     }
     for (size_t n = 0; n <= 4096; n += n < 40 ? 1 : 97) verdict(std::string(n, '0'), n % 2);
+    report.same(ijok_verdict(nullptr, 0), 8, "verdict on an empty line at a null pointer");
     report.line("sheet lines in guarded memory: right, damaged, of any bytes and lengths; any byte in any place of a frame");
 
     for (int k = 0; k < 3000000; ++k) quick_verdict(random_line(random));
@@ -254,7 +254,7 @@ void compare_lines() {
         const Almanac &a = almanac(c);
         for (int64_t y = a.first_year; y <= LAST_YEAR; y += 13)
             for (uint64_t m = 1; m <= a.year(y).size(); ++m) {
-                uint64_t days = uint64_t(a.year(y)[m - 1]), n = naive_date_to_day(c, y, m, days);
+                uint64_t days = uint64_t(a.year(y)[m - 1]), n = naive_date_to_day(c, y, m, days).day;
                 quick_verdict(frame(c, y, m, days, n));
                 quick_verdict(frame(c, y, m, days, n + 1));
                 quick_verdict(frame(c, y, m, days + 1, n + 1));

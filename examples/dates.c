@@ -1,0 +1,105 @@
+/* The library from C: dates both ways, Easter, a code fitted and unfolded, a line of a sheet judged, and refusals. Prints what it asked, and ends with a status
+ * that is not 0 where an answer is not as expected. .ci/run builds and runs it. */
+#include <inttypes.h>
+#include <stdio.h>
+#include <string.h>
+
+#include "ijok.h"
+
+static int wrong = 0;
+
+static void expect(int good, const char *what) {
+    if (!good) {
+        printf("not as expected: %s\n", what);
+        wrong = 1;
+    }
+}
+
+static void dates(void) {
+    struct ijok_day d = ijok_date_to_day(IJOK_GREGORIAN, 2000, 2, 29);
+    struct ijok_date hebrew = ijok_day_to_date(IJOK_HEBREW, d.day);
+    struct ijok_length february = ijok_position_length(IJOK_GREGORIAN, 2000, 2);
+    struct ijok_date first = ijok_day_to_date(IJOK_JULIAN, 0);
+
+    expect(d.number == IJOK_DONE && d.day == 2451604, "29 February 2000");
+    printf("29 February 2000 is day %" PRIu64 "\n", d.day);
+
+    expect(hebrew.number == IJOK_DONE && hebrew.year == 5760 && hebrew.month == 6 && hebrew.day == 23, "that day in the Hebrew calendar");
+    printf("in the Hebrew calendar year %" PRId64 ", position %" PRIu64 ", day %" PRIu64 "\n", hebrew.year, hebrew.month, hebrew.day);
+
+    expect(february.number == IJOK_DONE && february.days == 29, "the length of February 2000");
+    expect(first.number == IJOK_DONE && first.year == -4712 && first.month == 1 && first.day == 1, "day 0");
+}
+
+/* A refusal has its number, and 0 in every other field. */
+static void refusals(void) {
+    struct ijok_day d = ijok_date_to_day(IJOK_GREGORIAN, 1900, 2, 29);
+    struct ijok_date early = ijok_day_to_date(IJOK_HEBREW, 0);
+    struct ijok_length none = ijok_position_length(IJOK_HEBREW, 5759, 7);
+
+    expect(d.number == IJOK_NO_SUCH_DAY && d.day == 0, "29 February 1900");
+    printf("29 February 1900 is refused %" PRIu64 "\n", d.number);
+
+    expect(early.number == IJOK_DAY_OUT_OF_RANGE && early.year == 0 && early.month == 0 && early.day == 0, "a day before the Hebrew calendar's first");
+    expect(none.number == IJOK_NO_SUCH_MONTH && none.days == 0, "position 7 of a common Hebrew year");
+    expect(ijok_date_to_day(16, 2000, 1, 1).number == IJOK_UNKNOWN_CALENDAR, "calendar 16");
+    expect(ijok_date_to_day(IJOK_JULIAN, -4713, 1, 1).number == IJOK_YEAR_OUT_OF_RANGE, "the year before the first");
+    expect(ijok_date_to_day(IJOK_GREGORIAN, 10000, 1, 1).number == IJOK_DAY_OUT_OF_RANGE, "the day after the last");
+    /* a negative number arrives as one above 2^63 */
+    expect(ijok_date_to_day(IJOK_GREGORIAN, 2000, (uint64_t)-1, 1).number == IJOK_NO_SUCH_MONTH, "month -1");
+}
+
+static void easter(void) {
+    struct ijok_easter e = ijok_easter(IJOK_GREGORIAN, 1943);
+    struct ijok_easter before = ijok_easter(IJOK_GREGORIAN, 1582);
+
+    expect(e.number == IJOK_DONE && e.month == 4 && e.day == 25, "Easter 1943");
+    printf("Easter 1943: month %" PRIu64 ", day %" PRIu64 "\n", e.month, e.day);
+
+    expect(before.number == IJOK_YEAR_OUT_OF_RANGE && before.month == 0 && before.day == 0, "Easter 1582");
+    expect(ijok_easter(IJOK_HEBREW, 2000).number == IJOK_UNKNOWN_CALENDAR, "Easter in the Hebrew calendar");
+}
+
+static void lines(void) {
+    const uint64_t months[6] = {31, 30, 31, 30, 31, 31}; /* March to August */
+    const uint64_t falling[4] = {31, 31, 30, 30};
+    struct ijok_line l = ijok_fit(months, 6);
+    struct ijok_line no_line = ijok_fit(falling, 4);
+    uint64_t again[8] = {0, 0, 0, 0, 0, 0, 7, 7};
+
+    expect(l.number == IJOK_DONE && l.a == 153 && l.b == 5 && l.r == 2, "the line of 31 30 31 30 31 31");
+    printf("31 30 31 30 31 31 is the line (%" PRIu64 " k + %" PRIu64 ") / %" PRIu64 "\n", l.a, l.r, l.b);
+
+    expect(ijok_unfold(l.a, l.b, l.r, 6, again, 8) == IJOK_DONE, "unfolding");
+    expect(memcmp(again, months, sizeof months) == 0 && again[6] == 7 && again[7] == 7, "what was unfolded, and what lies past it");
+
+    expect(no_line.number == IJOK_NO_LINE && no_line.a == 0 && no_line.b == 0 && no_line.r == 0, "the line of 31 31 30 30");
+    expect(ijok_unfold(l.a, l.b, l.r, 9, again, 8) == IJOK_BUFFER_TOO_SHORT, "unfolding into a buffer that is too short");
+    expect(ijok_unfold(l.a, 0, 0, 6, again, 8) == IJOK_LINE_OUT_OF_LIMITS, "unfolding with the denominator 0");
+    expect(memcmp(again, months, sizeof months) == 0, "the buffer after refusals");
+    /* of no elements the pointer may be null */
+    expect(ijok_fit(NULL, 0).number == IJOK_CODE_OUT_OF_LIMITS, "the line of no lengths");
+    expect(ijok_unfold(l.a, l.b, l.r, 6, NULL, 0) == IJOK_BUFFER_TOO_SHORT, "unfolding into no buffer");
+}
+
+static uint64_t verdict(const char *line) {
+    return ijok_verdict((const uint8_t *)line, strlen(line));
+}
+
+static void sheet(void) {
+    expect(verdict("0b1a380101256859") == IJOK_DONE, "a right frame");
+    expect(verdict("0b1a38010125685a") == IJOK_WRONG_DAY, "a frame with another day");
+    expect(verdict("xyz") == IJOK_MALFORMED_FRAME, "no frame");
+    expect(ijok_verdict(NULL, 0) == IJOK_MALFORMED_FRAME, "an empty line");
+    printf("0b1a380101256859 is right\n");
+}
+
+int main(void) {
+    dates();
+    refusals();
+    easter();
+    lines();
+    sheet();
+    if (!wrong) printf("all as expected\n");
+    return wrong;
+}
