@@ -1,5 +1,5 @@
 /* The library from C: dates both ways, Easter, a code fitted and unfolded, a line of a sheet judged, and refusals. Prints what it asked, and ends with a status
- * that is not 0 where an answer is not as expected. .ci/run builds and runs it. */
+ * that is not 0 where an answer is not as expected. examples/run builds and runs it. */
 #include <inttypes.h>
 #include <stdio.h>
 #include <string.h>
@@ -45,7 +45,7 @@ static void refusals(void) {
     expect(ijok_date_to_day(16, 2000, 1, 1).number == IJOK_UNKNOWN_CALENDAR, "calendar 16");
     expect(ijok_date_to_day(IJOK_JULIAN, -4713, 1, 1).number == IJOK_YEAR_OUT_OF_RANGE, "the year before the first");
     expect(ijok_date_to_day(IJOK_GREGORIAN, 10000, 1, 1).number == IJOK_DAY_OUT_OF_RANGE, "the day after the last");
-    /* a negative number arrives as one above 2^63 */
+    /* a negative number arrives as 2^63 or more */
     expect(ijok_date_to_day(IJOK_GREGORIAN, 2000, (uint64_t)-1, 1).number == IJOK_NO_SUCH_MONTH, "month -1");
 }
 

@@ -1,5 +1,5 @@
-// The library from C++: the same questions as examples/dates.c, with a refusal turned into an exception. Ends with a status that is not 0 where an answer is not as
-// expected. .ci/run builds and runs it.
+// The library from C++: the same kinds of questions as in dates.c, with a refusal turned into an exception. Ends with a status that is not 0 where an
+// answer is not as expected. examples/run builds and runs it.
 #include <cstdint>
 #include <cstdio>
 #include <stdexcept>

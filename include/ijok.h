@@ -4,9 +4,9 @@
  * other field and changes no lent memory. So test the number before a value is used.
  *
  * Numbers. Every value of every number parameter is allowed and gets its answer: nothing is narrowed before it is tested. A negative number
- * that is passed for an unsigned parameter arrives as one above 2^63, beyond every limit, and is refused as too large a number is: a
- * calendar with 1, a month with 3, a day of the month with 4, a day number with 5, a count to unfold with 6, an a, b or r with 10. Years are
- * signed, and year 0 exists.
+ * that is passed for an unsigned parameter arrives as 2^63 or more, beyond every limit, and is refused as too large a number is, unless
+ * another refusal comes first: a calendar with 1, a month or position with 3, a day of the month with 4, a day number with 5, a length of a
+ * code or a count to unfold with 6, an a, b or r to unfold with 10. Years are signed, and year 0 exists.
  *
  * Memory. A slice is a pointer and then its number of elements. They must be there, aligned, and not be changed by another thread during the
  * call; a length that is not true is the one thing that cannot be refused. Nothing outside the slice is read or written. Where the length is 0
