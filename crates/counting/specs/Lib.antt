@@ -2,3 +2,4 @@ pub mod Calendar
 pub mod Years
 pub mod Answers
 pub mod Order
+pub mod Given
