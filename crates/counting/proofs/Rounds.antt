@@ -154,6 +154,17 @@ module _ (K : Calendar) (has-days : (i : ℕ) → 1 ≤ total (years K i)) where
       let i = place-back (K .firstYear) (D .year) in
       record { from-first = not-before (K .firstYear) (D .year); to-last = l; valid = rw i (g .0); number = rw i (omega (arith, g .1)); small = k }
 
+-- where each way undoes the other, a date is given a day exactly where a day is given that date
+pub given-exactly : (day : ℤ → ℕ → ℕ → DayAnswer) (date : ℕ → DateAnswer)
+    → ((y : ℤ) (m d : ℕ) → day y m d .number ≡ 0 → date (day y m d .day) ≡ record { number = 0; year = y; month = m; day = d })
+    → ((n : ℕ) → date n .number ≡ 0 → let x = date n in day (x .year) (x .month) (x .day) ≡ record { number = 0; day = n })
+    → (y : ℤ) (m d : ℕ) → (day y m d .number ≡ 0) ↔ ((n : ℕ) × (date n ≡ record { number = 0; year = y; month = m; day = d }))
+given-exactly day date there back y m d =
+    let asked : DateAnswer → ℕ = λ x. day (x .year) (x .month) (x .day) .number in (
+      (λ e. (day y m d .day, there y m d e)),
+      λ x. sym (ap asked (x .1)) ∙ ap (λ (a : DayAnswer). a .number) (back (x .0) (ap (λ (a : DateAnswer). a .number) (x .1))),
+    )
+
 -- ---- order
 
 module _ (K : Calendar) (y : ℤ) (m d n : ℕ) (y′ : ℤ) (m′ d′ n′ : ℕ) (a : Accepted K y m d n) (a′ : Accepted K y′ m′ d′ n′) where

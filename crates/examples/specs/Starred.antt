@@ -52,8 +52,3 @@ starred =
 abbrev pub Answered : Example → Type 0
 Answered (date c y m d a) = dayAnswer c y m d ≡ a
 Answered (code ls a) = fitOf ls ≡ a
-
--- each example of a table is
-abbrev pub AllAnswered : List Example → Type 0
-AllAnswered [] = Unit {0}
-AllAnswered (e ∷ es) = Answered e × AllAnswered es
