@@ -7,6 +7,7 @@ use lib.IntN.{pos, natAbs}
 use mir.Syntax.{w64}
 use mir.Val.{toZ, ofZ}
 use mir.ValLaws.{toZ-ofZ}
+use native.Mathlib.Omega.{arith}
 use borrow.Author.Tests.{le-leb, lt-leb}
 use Rattle.easter.specs.Paper.{yearFrom}
 use Rattle.easter.specs.declared.Year.the-variants.{In, Out}
@@ -38,10 +39,10 @@ returns-2 : tie.Need-returns-2
 returns-2 c = sym (answer (c .before) ∙ rw (lt-leb _ _ (c .if2 .taken)) refl)
 
 returns-3 : tie.Need-returns-3
-returns-3 c = sym (answer (c .before .before) ∙ rw (le-leb _ _ (c .before .if2 .left), lt-leb _ 9999 (c .if3 .taken)) refl)
+returns-3 c = sym (answer (c .before .before) ∙ rw (le-leb _ _ (c .before .if2 .left), lt-leb (year (c .before .before .before)) 9999 (omega (arith, c .if3 .taken))) refl)
 
 returns-4 : tie.Need-returns-4
-returns-4 c = sym (answer (c .before .before) ∙ rw (le-leb _ _ (c .before .if2 .left), le-leb _ 9999 (c .if3 .left)) refl)
+returns-4 c = sym (answer (c .before .before) ∙ rw (le-leb _ _ (c .before .if2 .left), le-leb (year (c .before .before .before)) 9999 (omega (arith, c .if3 .left))) refl)
 
 pub year-from-spec : {M : Type 1} → statement M
 year-from-spec = tie.close (tie.spec returns cast-y returns-2 returns-3 returns-4)
