@@ -9,7 +9,8 @@ use native.Mathlib.Decide.{decLt, le-ind}
 use native.Mathlib.Omega.{arith}
 use lib.Dec.{eqb}
 use borrow.Author.Tests.{eqb-true, eqb-false}
-use Rattle.counting.specs.Calendar.{start, InYear}
+use Rattle.counting.specs.Calendar.{start}
+use Rattle.counting.specs.InYear.{InYear}
 use Rattle.basics.proofs.Cases.{both, cond-elim}
 use Rattle.calendar_rules.specs.Shapes.{Common, leapBy, leapsBelow, daysBelow, leapByYears, YearIs}
 use Rattle.calendar_rules.proofs.Years.{leap-kin, leap-days}

@@ -8,7 +8,8 @@ use native.Mathlib.Decide.{le-ind}
 use lib.ListN.{take, drop}
 use lib.Seq.{getD-drop}
 use borrow.Author.Tests.{lt-ltb, le-ltb}
-use Rattle.counting.specs.Calendar.{total, start, Date, len, Valid, dayOf, firstFrom, newYear, next, dateAt, Before, InYear}
+use Rattle.counting.specs.Calendar.{total, start, Date, len, Valid, dayOf, firstFrom, newYear, next, dateAt, Before}
+use Rattle.counting.specs.InYear.{InYear}
 use Rattle.counting.specs.Calendar.Before.{by-year, by-month, by-day}
 use Rattle.basics.proofs.Order.{le-or-lt, by-order}
 use Rattle.counting.proofs.Totals.{total-split, total-take-suc, total-take-add, total-take-mono, first}

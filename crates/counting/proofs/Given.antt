@@ -2,7 +2,7 @@
 use mathlib.Core.Path.{_≡_, refl, subst}
 use mathlib.Core.Bool.{Bool, true, false, cond, _||_}
 use mathlib.Core.Logic.{_⊎_, inl, inr, ⊎-elim, _↔_}
-use Prim.Native.Nat.{ℕ, zero, suc, _≤_, _<_}
+use Prim.Native.Nat.{ℕ, suc, _≤_, _<_}
 use native.Mathlib.Omega.{arith}
 use lib.Dec.{eqb, ltb}
 use lib.IntN.{ℤ}
@@ -14,7 +14,7 @@ use Rattle.counting.specs.Given.{Given, OfDate, OfDay, OfPosition}
 use Rattle.counting.specs.Given.OfDate.{below-first, above-20000, month-0, above-positions, no-days, day-0, beyond-month, its-day}
 use Rattle.counting.specs.Given.OfDay.{above-5373484, before-first}
 use Rattle.counting.specs.Given.Given.{done, lowest}
-use Rattle.basics.proofs.Cases.{cond-elim, neither}
+use Rattle.basics.proofs.Cases.{neither}
 use Rattle.basics.proofs.Order.{by-order}
 
 -- one number is given,

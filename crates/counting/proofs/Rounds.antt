@@ -1,7 +1,7 @@
 -- What the answers of a calendar have to do with counting and with each other, for any calendar in which every year has days: counting from the first day
 -- reaches the date, each way undoes the other, and dates in order have days in order.
 use mathlib.Core.Path.{_≡_, refl, sym, ap, _∙_}
-use mathlib.Core.Bool.{Bool, true, false, cond, _||_}
+use mathlib.Core.Bool.{Bool, true, false, _||_}
 use mathlib.Core.Logic.{_↔_}
 use mathlib.Core.List.{List}
 use Prim.Native.Nat.{ℕ, suc, _-_, _≤_, _<_}

@@ -3,3 +3,4 @@ pub mod Years
 pub mod Answers
 pub mod Order
 pub mod Given
+pub mod InYear

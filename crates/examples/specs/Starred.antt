@@ -1,7 +1,7 @@
 -- The worked examples that document 01 marks with a star ("Plates from the proof drawer"), as one table, over the definitions that the promises cite:
 -- `dayAnswer` of crate calendar_rules for date to day, `fitOf` of crate lines for fitting.
 use mathlib.Core.Path.{_≡_}
-use mathlib.Core.List.{List, [], _∷_, _++_}
+use mathlib.Core.List.{List, [], _∷_}
 use Prim.Native.Nat.{ℕ}
 use lib.IntN.{ℤ, pos, negsuc}
 use Rattle.lines.specs.Fit.{Answer, line, refused, fitOf}

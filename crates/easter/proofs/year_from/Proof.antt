@@ -9,7 +9,7 @@ use mir.Val.{toZ, ofZ}
 use mir.ValLaws.{toZ-ofZ}
 use native.Mathlib.Omega.{arith}
 use borrow.Author.Tests.{le-leb, lt-leb}
-use Rattle.easter.specs.Paper.{yearFrom}
+use Rattle.easter.specs.Years.{yearFrom}
 use Rattle.easter.specs.declared.Year.the-variants.{In, Out}
 use Rattle.easter.proofs.Years.{below-zero, from-zero, unsigned}
 use Rattle.easter.proofs.year_from.Statement.{statement}
