@@ -1,6 +1,7 @@
--- What is shown of the sixteen calendars, on one page. It rests on these definitions: the rows (`table`, `calendar` of specs/Calendars.antt), what is answered for a
--- number (`dayAnswer`, `dateAnswer`, `lengthAnswer` of specs/Answers.antt; an answer whose number is 0 is no refusal), and of crate counting what a calendar
--- answers (`dayFor`, `dateFor`, `lengthFor`), the date that follows (`next`), a date counted from the first year (`Date`) and the order of dates (`Earlier`).
+-- What is shown of the sixteen calendars, on one page. It rests on these definitions: the rows (`table`, `calendar` of specs/Calendars.antt), what is answered
+-- for a number (`dayAnswer`, `dateAnswer`, `lengthAnswer` of specs/Answers.antt; an answer whose number is 0 is no refusal), and of crate counting what a
+-- calendar answers (`dayFor`, `dateFor`, `lengthFor`), the date that follows (`next`), a date counted from the first year (`Date`), the order of dates
+-- (`Earlier`) and which number is given (`Given`).
 -- What counting's claims page shows of any calendar in which every year has days holds of each that is listed; here it is said by number.
 use mathlib.Core.Path.{_≡_, refl, _∙_}
 use mathlib.Core.Logic.{_⊎_, _↔_}

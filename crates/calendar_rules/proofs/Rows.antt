@@ -13,7 +13,9 @@ use Rattle.basics.proofs.Cases.{same-test}
 use Rattle.counting.proofs.Signs.{mod-after}
 use Rattle.hebrew.specs.Hebrew.{lengths as hebrewLengths}
 use Rattle.hebrew.specs.Years.{years as hebrewYears}
-use Rattle.calendar_rules.specs.Calendars.{row, none, remainder, gregorianLeap, islamicLeap, thirtiesAnd5, thirtiesAnd5or6, fromSeptember, fromOctober, fromJanuary, inTurn, nineteens, sakaMonths, persian, macedonian, syrian, julian, gregorian, bahai, saka, hebrew}
+use Rattle.calendar_rules.specs.Calendars.{row, none, remainder, gregorianLeap, islamicLeap, thirtiesAnd5, thirtiesAnd5or6, fromSeptember, fromOctober}
+use Rattle.calendar_rules.specs.Calendars.{fromJanuary, inTurn, nineteens, sakaMonths, persian, macedonian, syrian, julian, gregorian, bahai, saka}
+use Rattle.calendar_rules.specs.Calendars.{hebrew}
 use Rattle.calendar_rules.specs.Shapes.{shape, fourthLeap, centuries, leapBy, islamicLeapAt, plainYears, fourthYears, leapByYears, islamicYears}
 use Rattle.calendar_rules.proofs.Gregorian.{in-words}
 

@@ -1,5 +1,5 @@
--- Worked examples that tie the rows and the limits to the world: for each row of the table a date and its day as a program outside has them, or one derived from
--- such, and what is answered at the limits. proofs/Claims.antt shows that each is answered so.
+-- Worked examples that tie the rows and the limits to the world: for each row of the table a date and its day as an outside program has them, or one derived
+-- from such, and what is answered at the limits. proofs/Claims.antt shows that each is answered so.
 use Prim.Native.Nat.{ℕ}
 use mathlib.Core.Path.{_≡_}
 use mathlib.Core.List.{List, [], _∷_}
@@ -19,7 +19,7 @@ Answered (date c y m d a) = dayAnswer c y m d ≡ a
 Answered (day c n a) = dateAnswer c n ≡ a
 Answered (position c y m a) = lengthAnswer c y m ≡ a
 
-abbrev is : ℕ → DayAnswer
+abbrev pub is : ℕ → DayAnswer
 is n = record { number = 0; day = n }
 
 abbrev has : ℕ → LengthAnswer

@@ -9,7 +9,9 @@ use lib.IntN.{ℤ}
 use lib.ListN.{length}
 use lib.Signed.{ltZ}
 use borrow.Author.Tests.{eqb-true, eqb-false, ltb-true, ltb-false}
-use Rattle.counting.specs.Answers.{Calendar, DayAnswer, DateAnswer, LengthAnswer, lastDay, lastYear, yearOut, lengthIn, monthZero, abovePositions, noDaysThatYear, noMonth, noDay, dayOut, dayNumber, dateOn, dated, noDayAnswer, noDateAnswer, noLengthAnswer, dayFor, dateFor, lengthFor}
+use Rattle.counting.specs.Answers.{Calendar, DayAnswer, DateAnswer, LengthAnswer, lastDay, lastYear, yearOut, lengthIn, monthZero, abovePositions}
+use Rattle.counting.specs.Answers.{noDaysThatYear, noMonth, noDay, dayOut, dayNumber, dateOn, dated, noDayAnswer, noDateAnswer, noLengthAnswer, dayFor}
+use Rattle.counting.specs.Answers.{dateFor, lengthFor}
 use Rattle.counting.specs.Given.{Given, OfDate, OfDay, OfPosition}
 use Rattle.counting.specs.Given.OfDate.{below-first, above-20000, month-0, above-positions, no-days, day-0, beyond-month, its-day}
 use Rattle.counting.specs.Given.OfDay.{above-5373484, before-first}

@@ -5,7 +5,8 @@ use native.Mathlib.Omega.{arith}
 use Rattle.counting.specs.Calendar.{total, start}
 use Rattle.counting.specs.InYear.{InYear}
 use Rattle.counting.proofs.Counting.{one-year}
-use Rattle.hebrew.specs.Hebrew.{leap, monthsIn, monthsBefore, moon, moonDay, moonHour, secondApplies, thirdApplies, moved, fourthApplies, fourth, newYear, yearDays}
+use Rattle.hebrew.specs.Hebrew.{leap, monthsIn, monthsBefore, moon, moonDay, moonHour, secondApplies, thirdApplies, moved, fourthApplies, fourth, newYear}
+use Rattle.hebrew.specs.Hebrew.{yearDays}
 use Rattle.hebrew.specs.Years.{years}
 use Rattle.hebrew.proofs.Lengths.{grows}
 use Rattle.hebrew.proofs.SixKinds.{lengths-total}

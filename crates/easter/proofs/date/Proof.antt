@@ -42,7 +42,9 @@ not-one : (c : tie.Joined1) → exceptionI (c .before .args .d) (c .before .args
 not-one c =
     let d = c .before .args .d in
     ⊎-elim (λ w. rw (ne-eqb d 29 (λ e. w .1 .left (omega arith))))
-    (⊎-elim (λ w. rw (ne-eqb d 29 (λ e. w .1 .left (omega arith)))) (λ w. rw (ne-eqb (c .before .args .e) 6 (λ e. w .left (omega arith))) (and-false (eqb d 29))))
+    (⊎-elim
+    (λ w. rw (ne-eqb d 29 (λ e. w .1 .left (omega arith))))
+    (λ w. rw (ne-eqb (c .before .args .e) 6 (λ e. w .left (omega arith))) (and-false (eqb d 29))))
     (c .if1 .came)
 
 not-two : (c : tie.Joined1) → exceptionII (c .before .args .m) (c .before .args .d) (c .before .args .e) ≡ false
