@@ -6,10 +6,13 @@ use mathlib.Core.List.{List}
 use Prim.Native.Nat.{ℕ, _+_, _-_, _*_, _≤_, _<_}
 use native.Mathlib.Omega.{arith}
 use lib.ListN.{length, take}
-use Rattle.counting.specs.Calendar.{total, start, firstFrom, InYear}
+use Rattle.counting.specs.Calendar.{total, start, firstFrom}
+use Rattle.counting.specs.InYear.{InYear}
 use Rattle.counting.proofs.Totals.{total-take-le}
 use Rattle.counting.proofs.Starts as S
-use Rattle.hebrew.specs.Hebrew.{leap, yearDays, kindOf, years as hebrewYears}
+use Rattle.hebrew.specs.Hebrew.{leap, yearDays}
+use Rattle.hebrew.specs.Years.{years as hebrewYears}
+use Rattle.hebrew.proofs.SixKinds.{kindOf}
 use Rattle.calendar_rules.specs.Shapes.{shape, Common, Alone, fourthLeap, leapBy, islamicLeapAt, plainYears, fourthYears, leapByYears, islamicYears}
 use Rattle.calendar_rules.proofs.Years.{leap-kin}
 use Rattle.calendar_rules.proofs.HebrewYears.{hebrew-year}

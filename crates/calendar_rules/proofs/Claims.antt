@@ -1,21 +1,31 @@
--- What is shown of the sixteen calendars, on one page. It rests on these definitions: the rows (`table`, `calendar` of specs/Calendars.antt), what is answered for a
--- number (`dayAnswer`, `dateAnswer`, `lengthAnswer` of specs/Answers.antt; an answer whose number is 0 is no refusal), and of crate counting what a calendar
--- answers (`dayFor`, `dateFor`, `lengthFor`), the date that follows (`next`), a date counted from the first year (`Date`) and the order of dates (`Earlier`).
+-- What is shown of the sixteen calendars, on one page. It rests on these definitions: the rows (`table`, `calendar` of specs/Calendars.antt), what is answered
+-- for a number (`dayAnswer`, `dateAnswer`, `lengthAnswer` of specs/Answers.antt; an answer whose number is 0 is no refusal), and of crate counting what a
+-- calendar answers (`dayFor`, `dateFor`, `lengthFor`), the date that follows (`next`), a date counted from the first year (`Date`), the order of dates
+-- (`Earlier`) and which number is given (`Given`).
 -- What counting's claims page shows of any calendar in which every year has days holds of each that is listed; here it is said by number.
 use mathlib.Core.Path.{_≡_, refl, _∙_}
-use mathlib.Core.Logic.{_↔_}
+use mathlib.Core.Logic.{_⊎_, _↔_}
 use mathlib.Core.Option.{Option}
 use Prim.Native.Nat.{ℕ, suc, _≤_, _<_}
 use native.Mathlib.Omega.{arith}
 use lib.IntN.{ℤ}
+use Rattle.basics.specs.Every.{All}
 use Rattle.counting.specs.Calendar.{Date, total, next}
 use Rattle.counting.specs.Years.{yearsFrom}
-use Rattle.counting.specs.Answers.{Calendar, years, DayAnswer, DateAnswer, lastDay, dateOn, dated, dayFor, dateFor, lengthFor, Proper}
+use Rattle.counting.specs.Answers.{Calendar, years, DayAnswer, DateAnswer, LengthAnswer, lastDay, dateOn, dated, dayFor, dateFor, lengthFor, Proper}
 use Rattle.counting.specs.Order.{Earlier}
+use Rattle.counting.specs.Given.{Given, OfDate, OfDay, OfPosition}
+use Rattle.counting.proofs.Given as G
 use Rattle.counting.proofs.Claims as C
+use Rattle.counting.proofs.Rounds.{given-exactly}
 use Rattle.calendar_rules.specs.Calendars.{calendar, Listed}
 use Rattle.calendar_rules.specs.Answers.{ofListed, dayAnswer, dateAnswer, lengthAnswer}
+use Rattle.calendar_rules.specs.Given.{Asked}
+use Rattle.calendar_rules.specs.Examples as E
+use Rattle.calendar_rules.specs.Examples.{Answered}
 use Rattle.calendar_rules.proofs.Bounds as B
+use Rattle.calendar_rules.proofs.Examples as X
+use Rattle.calendar_rules.proofs.Given.{asked}
 use Rattle.calendar_rules.proofs.Listed.{Sound, listed-sound, sound-proper}
 
 -- ---- a number that is listed: the answers are its calendar's
@@ -76,6 +86,32 @@ pub date-listed : (c n : ℕ) → dateAnswer c n .number ≡ 0 → (K : Calendar
 unfolding dateAnswer
 date-listed c n = was-listed (λ (a : DateAnswer). a .number) c _ _ (λ e. omega arith)
 
+pub length-listed : (c : ℕ) (y : ℤ) (m : ℕ) → lengthAnswer c y m .number ≡ 0 → (K : Calendar) × Listed c K
+unfolding lengthAnswer
+length-listed c y m = was-listed (λ (a : LengthAnswer). a .number) c _ _ (λ e. omega arith)
+
+-- ---- which number is answered: k exactly where document 01's table gives k (`Given` and what applies: specs/Given.antt, and that of crate counting)
+
+pub day-number : (c : ℕ) (y : ℤ) (m d k : ℕ) → (dayAnswer c y m d .number ≡ k) ↔ Given (Asked c (λ K. OfDate K y m d)) k
+unfolding dayAnswer
+day-number c y m d = G.exactly (asked (λ (a : DayAnswer). a .number) c _ _ _ refl (λ K. G.day-given K y m d))
+
+pub date-number : (c n k : ℕ) → (dateAnswer c n .number ≡ k) ↔ Given (Asked c (λ K. OfDay K n)) k
+unfolding dateAnswer
+date-number c n = G.exactly (asked (λ (a : DateAnswer). a .number) c _ _ _ refl (λ K. G.date-given K n))
+
+pub length-number : (c : ℕ) (y : ℤ) (m k : ℕ) → (lengthAnswer c y m .number ≡ k) ↔ Given (Asked c (λ K. OfPosition K y m)) k
+unfolding lengthAnswer
+length-number c y m = G.exactly (asked (λ (a : LengthAnswer). a .number) c _ _ _ refl (λ K. G.length-given K y m))
+
+-- the length of a position: date to day refuses its day d with 4 exactly outside 1 to that length
+pub length-days : (c : ℕ) (y : ℤ) (m : ℕ) → lengthAnswer c y m .number ≡ 0
+    → (d : ℕ) → (dayAnswer c y m d .number ≡ 4) ↔ ((d ≡ 0) ⊎ (lengthAnswer c y m .days < d))
+length-days c y m e d =
+    let l = length-listed c y m e in
+    let a = length-asked (l .1) y m in
+    rw (a, day-asked (l .1) y m d) (G.day-of-length (l .0) y m (rw a at e) d)
+
 -- date to day agrees with counting: the day that a date is given is the one that counting reaches the date on
 pub counted : (c : ℕ) (y : ℤ) (m d : ℕ) → dayAnswer c y m d .number ≡ 0
     → (K : Calendar) × Listed c K
@@ -100,6 +136,10 @@ back-and-there c n e =
     let a = date-asked (l .1) n in
     rw a (day-asked (l .1) _ _ _ ∙ C.back-and-there (l .0) (listed-proper (l .1)) n (rw a at e))
 
+-- a date is given a day exactly where counting reaches it on a day up to the last
+pub given-day : (c : ℕ) (y : ℤ) (m d : ℕ) → (dayAnswer c y m d .number ≡ 0) ↔ ((n : ℕ) × (dateAnswer c n ≡ record { number = 0; year = y; month = m; day = d }))
+given-day c = given-exactly (dayAnswer c) (dateAnswer c) (there-and-back c) (back-and-there c)
+
 -- dates in order have days in order, and the other way round
 pub ordered : (c : ℕ) (y : ℤ) (m d : ℕ) (y′ : ℤ) (m′ d′ : ℕ) → dayAnswer c y m d .number ≡ 0 → dayAnswer c y′ m′ d′ .number ≡ 0
     → Earlier y m d y′ m′ d′ ↔ (dayAnswer c y m d .day < dayAnswer c y′ m′ d′ .day)
@@ -108,3 +148,11 @@ ordered c y m d y′ m′ d′ e e′ =
     let a = day-asked (l .1) y m d in
     let a′ = day-asked (l .1) y′ m′ d′ in
     rw (a, a′) (C.dates-ordered (l .0) (listed-proper (l .1)) y m d y′ m′ d′ (rw a at e) (rw a′ at e′))
+
+-- ---- worked examples (specs/Examples.antt): of each row a date and its day, and what is answered at the limits
+
+pub rows : All Answered E.rows
+rows = X.rows-answered
+
+pub limits : All Answered E.limits
+limits = X.limits-answered

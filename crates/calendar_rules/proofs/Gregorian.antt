@@ -8,7 +8,8 @@ use native.Mathlib.Omega.{arith}
 use native.Mathlib.Decide.{decLt}
 use lib.Dec.{eqb}
 use borrow.Author.Tests.{eqb-true, eqb-false}
-use Rattle.counting.specs.Calendar.{start, InYear}
+use Rattle.counting.specs.Calendar.{start}
+use Rattle.counting.specs.InYear.{InYear}
 use Rattle.calendar_rules.specs.Shapes.{Common, leapBy, leapsBelow, daysBelow, centuries, leapByYears, YearIs}
 use Rattle.calendar_rules.proofs.LeapBy as B
 

@@ -5,9 +5,11 @@ use Prim.Native.Nat.{ℕ, _+_, _-_, _*_, _/_, _≤_, _<_}
 use native.Mathlib.Omega.{arith}
 use lib.ListN.{getD}
 use borrow.Author.Tests.{lt-ltb, le-ltb}
-use Rattle.counting.specs.Calendar.{InYear}
+use Rattle.counting.specs.InYear.{InYear}
 use Rattle.basics.proofs.Cases.{each, _and_}
-use Rattle.hebrew.specs.Hebrew.{leap, newYear, yearDays, kinds, kindOf, lengths, years}
+use Rattle.hebrew.specs.Hebrew.{leap, newYear, yearDays, kinds, lengths}
+use Rattle.hebrew.specs.Years.{years}
+use Rattle.hebrew.proofs.SixKinds.{kindOf}
 use Rattle.hebrew.proofs.SixKinds.{year-kind, lengths-row}
 use Rattle.hebrew.proofs.Lengths.{year-length, leap-days}
 use Rattle.hebrew.proofs.Calendar.{start-is, in-year}

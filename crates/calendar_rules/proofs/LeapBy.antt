@@ -9,7 +9,8 @@ use native.Mathlib.Decide.{decLt, le-ind}
 use native.Mathlib.Omega.{arith}
 use lib.Dec.{eqb}
 use borrow.Author.Tests.{eqb-true, eqb-false}
-use Rattle.counting.specs.Calendar.{start, InYear}
+use Rattle.counting.specs.Calendar.{start}
+use Rattle.counting.specs.InYear.{InYear}
 use Rattle.basics.proofs.Cases.{both, cond-elim}
 use Rattle.calendar_rules.specs.Shapes.{Common, leapBy, leapsBelow, daysBelow, leapByYears, YearIs}
 use Rattle.calendar_rules.proofs.Years.{leap-kin, leap-days}
@@ -70,7 +71,8 @@ count-step (m ∷ ms) c z = go (eqb (z % m) 0) refl (leapBy ms z) refl (round-up
     room s (suc z) = by (leapBy ms z) refl (eqb (z % m) 0) refl (room s z) (s z) (round-up m z (c .0))
       where
         by : (u : Bool) → leapBy ms z ≡ u → (t : Bool) → eqb (z % m) 0 ≡ t → leapsBelow ms z ≤ (z + (m - 1)) / m
-            → leapsBelow ms (suc z) ≡ leapsBelow ms z + cond u 1 0 → (suc z + (m - 1)) / m ≡ (z + (m - 1)) / m + cond t 1 0 → leapsBelow ms (suc z) ≤ (suc z + (m - 1)) / m
+            → leapsBelow ms (suc z) ≡ leapsBelow ms z + cond u 1 0 → (suc z + (m - 1)) / m ≡ (z + (m - 1)) / m + cond t 1 0
+            → leapsBelow ms (suc z) ≤ (suc z + (m - 1)) / m
         by false f t e r x y = omega arith
         by true f true e r x y = omega arith
         by true f false e r x y = absurd (eqb-false (z % m) 0 e (multiple m ms (c .1) z f))
@@ -100,9 +102,6 @@ module _ (ms : List ℕ) (chain : Chain ms) (p s : ℕ) (common : Common 365 s) 
   pub leap-by-year : (i : ℕ) → YearIs (leapByYears ms p s) s i (daysBelow ms (i + p) - daysBelow ms p) (s + cond (leapBy ms (i + p)) 1 0)
   unfolding leapByYears
   leap-by-year i = record { begins = omega (arith, starts i); lengths = refl; kin = leap-kin common (leapBy ms (i + p)) }
-
-  pub days-room : (i : ℕ) → daysBelow ms p ≤ daysBelow ms (i + p)
-  days-room i = omega (arith, starts i)
 
   -- day n is in the year z years after the multiple, where that begins by the day and the next does not
   pub leap-by-in : (n z : ℕ) → daysBelow ms z ≤ n + daysBelow ms p → n + daysBelow ms p < daysBelow ms (suc z) → (p ≤ z) × InYear (leapByYears ms p s) n (z - p)

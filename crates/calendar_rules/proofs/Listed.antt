@@ -11,6 +11,7 @@ use borrow.Author.Tests.{leb-true, ne-eqb}
 use Rattle.counting.specs.Calendar.{total}
 use Rattle.counting.specs.Answers.{Calendar, years, Proper}
 use Rattle.counting.proofs.Starts.{proper}
+use Rattle.basics.specs.Every.{All}
 use Rattle.basics.proofs.Cases.{both, _and_}
 use Rattle.calendar_rules.specs.Calendars.{table, lookup, calendar, Listed}
 use Rattle.calendar_rules.proofs.Bounds.{Shaped, year-days, same-years, plain-shaped, fourth-shaped, leap-by-shaped, islamic-shaped, hebrew-shaped}
@@ -20,11 +21,7 @@ use Rattle.calendar_rules.proofs.Tables.{pairTest, pair, aloneTest, alo
 
 -- ---- lookup
 
-abbrev Throughout : (Calendar → Type 0) → List (ℕ × Calendar) → Type 0
-Throughout P [] = Unit {0}
-Throughout P (r ∷ rest) = P (r .1) × Throughout P rest
-
-found : (P : Calendar → Type 0) (rows : List (ℕ × Calendar)) → Throughout P rows → (c : ℕ) (K : Calendar) → lookup c rows ≡ Option.some K → P K
+found : (P : Calendar → Type 0) (rows : List (ℕ × Calendar)) → All (λ r. P (r .1)) rows → (c : ℕ) (K : Calendar) → lookup c rows ≡ Option.some K → P K
 unfolding lookup
 found P [] a c K e = let z : _≡_ {A = ℕ} 0 1 = cc in absurd (omega arith)
 found P (r ∷ rest) a c K e = go (eqb c (r .0)) e (λ f. found P rest (a .1) c K f)
@@ -59,12 +56,12 @@ sound {K} y e =
     let b = both (leb (mag (K .firstYear)) 4711) (leb (K .firstDay) 2394647) e in
     record { shaped = y; first-year = leb-true (mag (K .firstYear)) 4711 (b .0); first-day = leb-true (K .firstDay) 2394647 (b .1) }
 
-rows-sound : Throughout Sound table
+rows-sound : All (λ (r : ℕ × Calendar). Sound (r .1)) table
 unfolding pairTest aloneTest total
 rows-sound =
-    sound (same-years (R.plain-row _) (plain-shaped (alone 365 0 refl))) refl
-    and sound (same-years (R.plain-row _) (plain-shaped (alone 365 0 refl))) refl
-    and sound (same-years (R.plain-row _) (plain-shaped (alone 365 0 refl))) refl
+    sound (same-years (R.plain-from _ _) (plain-shaped (alone 365 0 refl))) refl
+    and sound (same-years (R.plain-from _ _) (plain-shaped (alone 365 0 refl))) refl
+    and sound (same-years (R.plain-from _ _) (plain-shaped (alone 365 0 refl))) refl
     and sound (same-years R.persian-row (plain-shaped (alone 365 14 refl))) refl
     and sound (same-years (R.thirties-row _) (fourth-shaped 1 (pair 365 0 refl))) refl
     and sound (same-years (R.thirties-row _) (fourth-shaped 1 (pair 365 0 refl))) refl

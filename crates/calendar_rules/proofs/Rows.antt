@@ -5,14 +5,17 @@ use mathlib.Core.List.{List}
 use Prim.Native.Nat.{ℕ, _+_, _*_, _%_, _<_}
 use native.Mathlib.Omega.{arith}
 use lib.Dec.{eqb, ltb, leb}
-use lib.IntN.{pos, negsuc}
+use lib.IntN.{ℤ, pos, negsuc}
 use borrow.Author.Tests.{eqb-true, eqb-false, eq-eqb, ne-eqb, ltb-true, ltb-false, le-leb, lt-leb}
 use Rattle.counting.specs.Years.{modFloor, yearAt}
 use Rattle.counting.specs.Answers.{years}
 use Rattle.basics.proofs.Cases.{same-test}
 use Rattle.counting.proofs.Signs.{mod-after}
-use Rattle.hebrew.specs.Hebrew.{lengths as hebrewLengths, years as hebrewYears}
-use Rattle.calendar_rules.specs.Calendars.{row, none, remainder, gregorianLeap, islamicLeap, thirtiesAnd5, thirtiesAnd5or6, fromSeptember, fromOctober, fromJanuary, inTurn, nineteens, sakaMonths, persian, macedonian, syrian, julian, gregorian, bahai, saka, hebrew}
+use Rattle.hebrew.specs.Hebrew.{lengths as hebrewLengths}
+use Rattle.hebrew.specs.Years.{years as hebrewYears}
+use Rattle.calendar_rules.specs.Calendars.{row, none, remainder, gregorianLeap, islamicLeap, thirtiesAnd5, thirtiesAnd5or6, fromSeptember, fromOctober}
+use Rattle.calendar_rules.specs.Calendars.{fromJanuary, inTurn, nineteens, sakaMonths, persian, macedonian, syrian, julian, gregorian, bahai, saka}
+use Rattle.calendar_rules.specs.Calendars.{hebrew}
 use Rattle.calendar_rules.specs.Shapes.{shape, fourthLeap, centuries, leapBy, islamicLeapAt, plainYears, fourthYears, leapByYears, islamicYears}
 use Rattle.calendar_rules.proofs.Gregorian.{in-words}
 
@@ -62,10 +65,14 @@ eleven i =
 
 -- ---- the years of each row
 
+-- with no leap years it does not matter which is the first
+pub plain-from : (first : ℤ) (day i : ℕ) → years (row first day thirtiesAnd5 none) i ≡ plainYears 0 i
+unfolding years plainYears
+plain-from first day i = refl
+
 module _ (day : ℕ) where
   pub plain-row : (i : ℕ) → years (row (pos 1) day thirtiesAnd5 none) i ≡ plainYears 0 i
-  unfolding years plainYears
-  plain-row i = refl
+  plain-row = plain-from (pos 1) day
 
   pub thirties-row : (i : ℕ) → years (row (pos 1) day thirtiesAnd5or6 (remainder 3 4)) i ≡ fourthYears 1 0 i
   unfolding years fourthYears
@@ -105,4 +112,4 @@ saka-row i = pick sakaMonths 12 refl refl (from-1 2 2 i (omega arith) (omega ari
 
 pub hebrew-row : (i : ℕ) → years hebrew i ≡ hebrewYears i
 unfolding years hebrewYears
-hebrew-row i = let e : 1 + i ≡ i + 1 = omega arith in ap hebrewLengths e
+hebrew-row i = ap hebrewLengths (omega arith)

@@ -31,7 +31,10 @@ low-test : over (λ s p. leb (before s p) (width s * p)) ≡ true
 unfolding every before total
 low-test = refl
 
-high-test : over (λ s p. leb (min (total (shape s)) (width s * suc p)) (before s (p + 3))) ≡ true
+abbrev high-at : ℕ → ℕ → Bool
+high-at s p = leb (min (total (shape s)) (width s * suc p)) (before s (p + 3))
+
+high-test : over high-at ≡ true
 unfolding every before total
 high-test = refl
 
@@ -56,7 +59,7 @@ low s p hs hp = leb-true (before s p) (width s * p) (over-at (λ s p. leb (befor
 
 pub high : (s p n : ℕ) → s < 21 → p < 21 → n < total (shape s) → n < width s * suc p → n < before s (p + 3)
 high s p n hs hp a b =
-    let m = leb-true (min (total (shape s)) (width s * suc p)) (before s (p + 3)) (over-at (λ s p. leb (min (total (shape s)) (width s * suc p)) (before s (p + 3))) high-test s p hs hp) in
+    let m = leb-true (min (total (shape s)) (width s * suc p)) (before s (p + 3)) (over-at high-at high-test s p hs hp) in
     omega arith
 
 -- what holds of each shape
@@ -121,20 +124,23 @@ alone days s e =
 
 -- ---- the words
 
-byte-test : over (λ s p. ltb (places s) p || eqb (base s * p + word s (p / 8) / 2 ^ (8 * (p % 8)) % 256) (before s p)) ≡ true
+-- the days before a position, from its byte
+abbrev byte : ℕ → ℕ → ℕ
+byte s p = base s * p + word s (p / 8) / 2 ^ (8 * (p % 8)) % 256
+
+byte-test : over (λ s p. ltb (places s) p || eqb (byte s p) (before s p)) ≡ true
 unfolding every before total word bytes
 byte-test = refl
 
 pub places-small : (s : ℕ) → places s ≤ 20
 places-small s = cond-elim (λ (n : ℕ). n ≤ 20) (eqb (s / 2) 5) 20 13 (λ h. omega arith) (λ h. omega arith)
 
--- the days before a position from its byte
-pub byte-at : (s p : ℕ) → s < 21 → p ≤ places s → base s * p + word s (p / 8) / 2 ^ (8 * (p % 8)) % 256 ≡ before s p
+byte-at : (s p : ℕ) → s < 21 → p ≤ places s → byte s p ≡ before s p
 byte-at s p hs hp =
-    let t = over-at (λ s p. ltb (places s) p || eqb (base s * p + word s (p / 8) / 2 ^ (8 * (p % 8)) % 256) (before s p)) byte-test s p hs (omega (arith, places-small s)) in
-    eqb-true (base s * p + word s (p / 8) / 2 ^ (8 * (p % 8)) % 256) (before s p) (ap (λ u. u || eqb (base s * p + word s (p / 8) / 2 ^ (8 * (p % 8)) % 256) (before s p)) (sym (le-ltb (places s) p hp)) ∙ t)
+    let t = over-at (λ s p. ltb (places s) p || eqb (byte s p) (before s p)) byte-test s p hs (omega (arith, places-small s)) in
+    eqb-true (byte s p) (before s p) (ap (λ u. u || eqb (byte s p) (before s p)) (sym (le-ltb (places s) p hp)) ∙ t)
 
--- the same of the numbers that code has at hand: word j, which p is in
+-- by the numbers that code has at hand: word j, which p is in
 pub byte-in : (s p j b w : ℕ) → s < 21 → p ≤ places s → b ≡ base s → w ≡ word s j → p / 8 ≡ j → b * p + w / 2 ^ (8 * (p % 8)) % 256 ≡ before s p
 byte-in s p j b w hs hp eb ew ej = rw (eb, ew, ← ej) (byte-at s p hs hp)
 

@@ -7,7 +7,8 @@ use native.Mathlib.Omega.{arith}
 use lib.Dec.{eqb, ltb, leb}
 use borrow.Author.Tests.{eqb-true, eqb-false, lt-ltb, le-ltb, leb-true, leb-false}
 use Rattle.lines.specs.Marks.{markAt, lastAt, carry}
-use Rattle.counting.specs.Calendar.{total, start, InYear}
+use Rattle.counting.specs.Calendar.{total, start}
+use Rattle.counting.specs.InYear.{InYear}
 use Rattle.counting.proofs.Starts.{even-start, year-by-mark}
 use Rattle.calendar_rules.specs.Shapes.{shape, Kin, Common, Alone, fourthLeap, islamicLeapAt, plainYears, fourthYears, islamicYears, YearIs}
 

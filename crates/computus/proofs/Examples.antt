@@ -2,7 +2,8 @@
 use mathlib.Core.Path.{_≡_, refl}
 use Prim.Native.Nat.{_%_}
 use lib.IntN.{pos}
-use Rattle.computus.specs.Rule.{april, century, quotientR, quotientP, quotientQ, julianM, julianN, gregorianM, gregorianN, remainderD, remainderE, dated, inYears, easterAnswer}
+use Rattle.computus.specs.Rule.{april, century, quotientR, quotientP, quotientQ, julianM, julianN, gregorianM, gregorianN, remainderD, remainderE, dated}
+use Rattle.computus.specs.Rule.{inYears, easterAnswer}
 
 remainders : (7453 % 19 ≡ 5) × (7453 % 4 ≡ 1) × (7453 % 7 ≡ 5)
 remainders = (refl, refl, refl)

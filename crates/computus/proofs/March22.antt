@@ -38,7 +38,8 @@ julian-22 A =
 pub gregorian-22 : (A : ℕ) → day22March 38 gregorianLeap A + A / 100 ≡ 365 * A + A / 4 + A / 100 / 4 + 1721141
 unfolding centuryDays
 gregorian-22 A =
-    sums _ _ _ _ _ _ _ _ _ (before-next-year 38 gregorianLeap A) (rw (start-same _ _ gregorian-row i) (starts 88 6 january i)) (century-room z) (omega arith) (omega arith) (omega arith) (omega arith)
+    sums _ _ _ _ _ _ _ _ _ (before-next-year 38 gregorianLeap A) (rw (start-same _ _ gregorian-row i) (starts 88 6 january i))
+    (century-room z) (omega arith) (omega arith) (omega arith) (omega arith)
   where
     i : ℕ
     i = suc (A + 4712)

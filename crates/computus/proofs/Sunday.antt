@@ -11,7 +11,8 @@ use Rattle.counting.specs.Answers.{lastDay}
 use Rattle.calendar_rules.specs.Calendars.{Listed, remainder, gregorianLeap}
 use Rattle.computus.specs.Feast.{Allowed, InSpring, Feast}
 use Rattle.computus.specs.Feast.Allowed.{julian, gregorian}
-use Rattle.computus.specs.Rule.{EasterAnswer, refused, march, april, julianM, julianN, gregorianM, gregorianN, easterOf, julianEaster, gregorianEaster, inYears, easterAnswer}
+use Rattle.computus.specs.Rule.{EasterAnswer, refused, march, april, julianM, julianN, gregorianM, gregorianN, easterOf, julianEaster, gregorianEaster}
+use Rattle.computus.specs.Rule.{inYears, easterAnswer}
 use Rattle.computus.proofs.Offset.{after22March, sunday, julian-week, gregorian-week}
 use Rattle.computus.proofs.GoodDates.{januaries, day22March, good-after, julian-listed, gregorian-listed}
 use Rattle.computus.proofs.March22.{julian-22, gregorian-22}
@@ -44,7 +45,8 @@ easter-sunday (julian {A} h l) =
     rw (asked 1 A julianEaster h l) (feast 0 (remainder 0 4) julian-listed julianM julianN A l (omega arith) (julian-week A (day22March 0 (remainder 0 4) A) w))
 easter-sunday (gregorian {A} h l) =
     let w = gregorian-22 A in
-    rw (asked 1583 A gregorianEaster h l) (feast 38 gregorianLeap gregorian-listed (gregorianM A) (gregorianN A) A l (omega arith) (gregorian-week A (day22March 38 gregorianLeap A) w))
+    rw (asked 1583 A gregorianEaster h l)
+    (feast 38 gregorianLeap gregorian-listed (gregorianM A) (gregorianN A) A l (omega arith) (gregorian-week A (day22March 38 gregorianLeap A) w))
 
 -- ---- no other year is answered for
 

@@ -2,16 +2,16 @@
 use mathlib.Core.Path.{_≡_, refl, sym, ap, _∙_}
 use Prim.Native.Nat.{ℕ, zero, suc, _+_, _-_, _≤_, _<_}
 use mathlib.Core.List.{List}
-use mathlib.Core.Logic.{_↔_}
+use mathlib.Core.Logic.{_⊎_, inl, inr, _↔_}
 use native.Mathlib.Omega.{arith}
 use native.Mathlib.Decide.{le-ind}
 use lib.ListN.{take, drop}
 use lib.Seq.{getD-drop}
-use borrow.Author.Tests.{ltb-true, ltb-false}
-use Rattle.counting.specs.Calendar.{total, start, Date, len, Valid, dayOf, firstFrom, newYear, next, dateAt, Before, InYear}
+use borrow.Author.Tests.{lt-ltb, le-ltb}
+use Rattle.counting.specs.Calendar.{total, start, Date, len, Valid, dayOf, firstFrom, newYear, next, dateAt, Before}
+use Rattle.counting.specs.InYear.{InYear}
 use Rattle.counting.specs.Calendar.Before.{by-year, by-month, by-day}
-use Rattle.basics.proofs.Order.{by-order}
-use Rattle.basics.proofs.Cases.{cond-elim}
+use Rattle.basics.proofs.Order.{le-or-lt, by-order}
 use Rattle.counting.proofs.Totals.{total-split, total-take-suc, total-take-add, total-take-mono, first}
 
 -- D is E by its three numbers
@@ -134,9 +134,10 @@ module _ (L : ℕ → List ℕ) (has-days : (i : ℕ) → 1 ≤ total (L i)) whe
   Follows : Date → Date → Type 0
   Follows D E = Valid L E × (dayOf L E ≡ suc (dayOf L D))
 
-  next-in-month : (D : Date) → Valid L D → D .day < len (L (D .year)) (D .month) → Follows D (record { year = D .year; month = D .month; day = suc (D .day) })
+  next-in-month : (D : Date) (e : ℕ) → Valid L D → D .day < len (L (D .year)) (D .month) → e ≡ suc (D .day)
+      → Follows D (record { year = D .year; month = D .month; day = e })
   unfolding Follows dayOf
-  next-in-month D g h = (record { month-from-1 = g .month-from-1; day-from-1 = omega arith; day-in-month = h }, omega (arith, g .day-from-1))
+  next-in-month D e g h q = (record { month-from-1 = g .month-from-1; day-from-1 = omega arith; day-in-month = omega arith }, omega (arith, g .day-from-1))
 
   -- the days to the end of D's month, whose last day D is
   through : (D : Date) → Valid L D → len (L (D .year)) (D .month) ≤ D .day → suc (dayOf L D) ≡ start L (D .year) + total (take (D .month) (L (D .year)))
@@ -145,31 +146,37 @@ module _ (L : ℕ → List ℕ) (has-days : (i : ℕ) → 1 ≤ total (L i)) whe
       let e : suc (D .month - 1) ≡ D .month = omega (arith, g .month-from-1) in
       omega (arith, g .day-from-1, g .day-in-month, total-take-suc (D .month - 1) (L (D .year)), ap (λ (n : ℕ). total (take n (L (D .year)))) e)
 
-  next-in-year : (D : Date) → Valid L D → len (L (D .year)) (D .month) ≤ D .day → 1 ≤ total (drop (D .month) (L (D .year)))
-      → Follows D (record { year = D .year; month = firstFrom (suc (D .month)) (drop (D .month) (L (D .year))); day = 1 })
+  next-in-year : (D : Date) (m : ℕ) → Valid L D → len (L (D .year)) (D .month) ≤ D .day → 1 ≤ total (drop (D .month) (L (D .year))) → m ≡ suc (D .month)
+      → Follows D (record { year = D .year; month = firstFrom m (drop (D .month) (L (D .year))); day = 1 })
   unfolding Follows dayOf
-  next-in-year D g h k =
-      let f = first (suc (D .month)) (drop (D .month) (L (D .year))) k in
-      let e : firstFrom (suc (D .month)) (drop (D .month) (L (D .year))) - 1 ≡ D .month + f .0 = omega arith in (
+  next-in-year D m g h k q =
+      let f = first m (drop (D .month) (L (D .year))) k in
+      let e : firstFrom m (drop (D .month) (L (D .year))) - 1 ≡ D .month + f .0 = omega arith in (
         record { month-from-1 = omega arith; day-from-1 = omega arith; day-in-month = rw (e, ← getD-drop) (f .3) },
         rw e (omega (arith, through D g h, total-take-add (D .month) (f .0) (L (D .year)))),
       )
 
-  next-is-new-year : (D : Date) → Valid L D → len (L (D .year)) (D .month) ≤ D .day → total (drop (D .month) (L (D .year))) ≤ 0
-      → Follows D (newYear L (suc (D .year)))
+  next-is-new-year : (D : Date) (i : ℕ) → Valid L D → len (L (D .year)) (D .month) ≤ D .day → total (drop (D .month) (L (D .year))) ≤ 0 → i ≡ suc (D .year)
+      → Follows D (newYear L i)
   unfolding Follows start
-  next-is-new-year D g h k =
-      let n = new-year-valid (suc (D .year)) in
-      (n .0, omega (arith, n .1, through D g h, total-split (D .month) (L (D .year))))
+  next-is-new-year D i g h k e =
+      let n = new-year-valid i in
+      (n .0, omega (arith, n .1, through D g h, total-split (D .month) (L (D .year)), ap (start L) e))
 
   next-follows : (D : Date) → Valid L D → Follows D (next L D)
   unfolding next
-  next-follows D g =
-      cond-elim (Follows D) _ _ _
-      (λ h. next-in-month D g (ltb-true _ _ h))
-      (λ h. cond-elim (Follows D) _ _ _
-      (λ k. next-in-year D g (ltb-false _ _ h) (ltb-true _ _ k))
-      (λ k. next-is-new-year D g (ltb-false _ _ h) (ltb-false _ _ k)))
+  next-follows D g = go (le-or-lt l (D .day)) (le-or-lt r 0)
+    where
+      l : ℕ
+      l = len (L (D .year)) (D .month)
+
+      r : ℕ
+      r = total (drop (D .month) (L (D .year)))
+
+      go : (l ≤ D .day) ⊎ (D .day < l) → (r ≤ 0) ⊎ (0 < r) → Follows D (next L D)
+      go (inr h) k = rw (lt-ltb (D .day) l h) (next-in-month D _ g h (omega arith))
+      go (inl h) (inr k) = rw (le-ltb (D .day) l h, lt-ltb 0 r k) (next-in-year D _ g h k (omega arith))
+      go (inl h) (inl k) = rw (le-ltb (D .day) l h, le-ltb 0 r k) (next-is-new-year D _ g h k (omega arith))
 
   pub next-day : (D : Date) → Valid L D → Valid L (next L D) × (dayOf L (next L D) ≡ suc (dayOf L D))
   unfolding Follows
@@ -178,7 +185,7 @@ module _ (L : ℕ → List ℕ) (has-days : (i : ℕ) → 1 ≤ total (L i)) whe
   -- the date that counting reaches at day n is valid, and its day is n
   pub counted : (n : ℕ) → Valid L (dateAt L n) × (dayOf L (dateAt L n) ≡ n)
   unfolding dateAt Follows
-  counted zero = let g = new-year-valid 0 in (g .0, g .1 ∙ start-zero)
+  counted zero = (new-year-valid _ .0, new-year-valid _ .1 ∙ ap (start L) (omega arith) ∙ start-zero)
   counted (suc n) =
       let c = counted n in
       let f = next-follows (dateAt L n) (c .0) in

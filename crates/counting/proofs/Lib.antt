@@ -2,5 +2,6 @@ pub mod Totals
 pub mod Counting
 pub mod Signs
 pub mod Starts
+pub mod Given
 pub mod Rounds
 pub mod Claims

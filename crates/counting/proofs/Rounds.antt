@@ -1,7 +1,7 @@
 -- What the answers of a calendar have to do with counting and with each other, for any calendar in which every year has days: counting from the first day
 -- reaches the date, each way undoes the other, and dates in order have days in order.
 use mathlib.Core.Path.{_≡_, refl, sym, ap, _∙_}
-use mathlib.Core.Bool.{Bool, true, false, cond, _||_}
+use mathlib.Core.Bool.{Bool, true, false, _||_}
 use mathlib.Core.Logic.{_↔_}
 use mathlib.Core.List.{List}
 use Prim.Native.Nat.{ℕ, suc, _-_, _≤_, _<_}
@@ -14,10 +14,14 @@ use borrow.Author.Tests.{eqb-false, eq-eqb, ltb-true, ltb-false, lt-ltb, le-ltb,
 use Rattle.counting.specs.Calendar.{total, Date, Valid, len, firstFrom, newYear, next, dateAt, Before}
 use Rattle.counting.specs.Calendar.Before.{by-year as before-by-year, by-month as before-by-month, by-day as before-by-day}
 use Rattle.counting.specs.Years.{yearAt, yearsFrom}
-use Rattle.counting.specs.Answers.{Calendar, years, DayAnswer, lastDay, lastYear, yearOut, lengthIn, monthZero, noDaysThatYear, noMonth, noDay, dayOut, dayNumber, dateOn, dated, noDayAnswer, noDateAnswer, dayFor, dateFor}
+use Rattle.counting.specs.Answers.{Calendar, years, DayAnswer, DateAnswer, lastDay, lastYear, yearOut, lengthIn, monthZero, noDaysThatYear, noMonth}
+use Rattle.counting.specs.Answers.{noDay, dayOut, dayNumber, dateOn, dated, noDayAnswer, noDateAnswer, dayFor, dateFor}
+use Rattle.counting.specs.Given.{Given, OfDate}
+use Rattle.counting.specs.Given.Given.{done, lowest}
 use Rattle.counting.specs.Order.{Earlier}
 use Rattle.counting.specs.Order.Earlier.{by-year, by-month, by-day}
-use Rattle.basics.proofs.Cases.{cond-elim, neither}
+use Rattle.basics.proofs.Cases.{neither}
+use Rattle.counting.proofs.Given.{passed, day-given, two-to-five}
 use Rattle.counting.proofs.Signs.{year-back, place-back, not-before, order-kept}
 use Rattle.counting.proofs.Counting.{date-is, counted, orders-agree}
 
@@ -38,6 +42,10 @@ pub lengths-at : (K : Calendar) (y : ℤ) → ltZ y (K .firstYear) ≡ false →
 unfolding years
 lengths-at K y h = ap (K .lengths) (sym (year-back (K .firstYear) y h))
 
+-- a position's length is the one that the list has there
+length-is : (K : Calendar) (y : ℤ) (m : ℕ) → lengthIn K y m ≡ len (K .lengths y) m
+length-is K y m = ap (len (K .lengths y)) (omega arith)
+
 -- a position above the positions has no days, so that two of the three conditions would do
 pub no-month : (K : Calendar) (y : ℤ) (m : ℕ) → noMonth K y m ≡ (monthZero m || noDaysThatYear K y m)
 no-month K y m = go (eqb m 0) refl (ltb (length (K .lengths y)) m) refl
@@ -47,41 +55,30 @@ no-month K y m = go (eqb m 0) refl (ltb (length (K .lengths y)) m) refl
     go false e false h = refl
     go false e true h =
         let l = ltb-true (length (K .lengths y)) m h in
-        sym (eq-eqb (lengthIn K y m) 0 (List·getD-eq-default (K .lengths y) 0 {n = m - 1} (omega arith)))
-
--- where a choice is answered 0, a refusal was not chosen
-passed : (t : Bool) (k : ℕ) (b : DayAnswer) → cond t (noDayAnswer (suc k)) b .number ≡ 0 → (t ≡ false) × (b .number ≡ 0)
-passed true k b e = absurd (omega arith)
-passed false k b e = (refl, e)
+        sym (eq-eqb (lengthIn K y m) 0 (List·getD-eq-default (K .lengths y) 0 (omega arith)))
 
 -- date to day answers no number above 5
 pub day-five : (K : Calendar) (y : ℤ) (m d : ℕ) → dayFor K y m d .number ≤ 5
-unfolding dayFor
-day-five K y m d =
-    cond-elim Low (yearOut K y) _ _ (λ e. omega arith)
-    (λ e. cond-elim Low (noMonth K y m) _ _ (λ e. omega arith)
-    (λ e. cond-elim Low (noDay K y m d) _ _ (λ e. omega arith)
-    (λ e. cond-elim Low (dayOut K (dayNumber K y m d)) _ _ (λ e. omega arith) (λ e. omega arith))))
+day-five K y m d = go (day-given K y m d)
   where
-    Low : DayAnswer → Type 0
-    Low a = a .number ≤ 5
+    go : {k : ℕ} → Given (OfDate K y m d) k → k ≤ 5
+    go (done f) = omega arith
+    go (lowest a c) = two-to-five K y m d a .1
 
 module _ (K : Calendar) where
   pub accepted : (y : ℤ) (m d : ℕ) → dayFor K y m d .number ≡ 0 → Accepted K y m d (dayFor K y m d .day)
   unfolding dayFor
   accepted y m d e =
-      let R : DayAnswer = record { number = 0; day = dayNumber K y m d } in
-      let T : DayAnswer = cond (dayOut K (dayNumber K y m d)) (noDayAnswer 5) R in
-      let S : DayAnswer = cond (noDay K y m d) (noDayAnswer 4) T in
-      let q = passed (yearOut K y) 1 (cond (noMonth K y m) (noDayAnswer 3) S) e in
-      let r = passed (noMonth K y m) 2 S (q .1) in
-      let s = passed (noDay K y m d) 3 T (r .1) in
-      let t = passed (dayOut K (dayNumber K y m d)) 4 R (s .1) in
+      let through = passed (λ (a : DayAnswer). a .number) in
+      let q = through (yearOut K y) (noDayAnswer 2) _ (omega arith) e in
+      let r = through (noMonth K y m) (noDayAnswer 3) _ (omega arith) (q .1) in
+      let s = through (noDay K y m d) (noDayAnswer 4) _ (omega arith) (r .1) in
+      let t = through (dayOut K (dayNumber K y m d)) (noDayAnswer 5) _ (omega arith) (s .1) in
       let Y = neither (ltZ y (K .firstYear)) (ltZ lastYear y) (q .0) in
       let M = neither (monthZero m) (noDaysThatYear K y m) (sym (no-month K y m) ∙ r .0) in
       let D = neither (eqb d 0) (ltb (lengthIn K y m) d) (s .0) in
       let N = neither (ltb lastDay (dayNumber K y m d)) (ltb (dayNumber K y m d) (K .firstDay)) (t .0) in
-      let l : len (K .lengths y) m ≡ len (years K (yearsFrom (K .firstYear) y)) m = ap (λ (ls : List ℕ). len ls m) (lengths-at K y (Y .0)) in
+      let l = length-is K y m ∙ ap (λ (ls : List ℕ). len ls m) (lengths-at K y (Y .0)) in
       rw (q .0, r .0, s .0, t .0)
       (record {
         from-first = Y .0;
@@ -99,7 +96,7 @@ module _ (K : Calendar) where
   pub accept : (y : ℤ) (m d n : ℕ) → Accepted K y m d n → dayFor K y m d ≡ record { number = 0; day = n }
   unfolding dayFor
   accept y m d n a =
-      let l : lengthIn K y m ≡ len (years K (yearsFrom (K .firstYear) y)) m = ap (λ (ls : List ℕ). len ls m) (lengths-at K y (a .from-first)) in
+      let l = length-is K y m ∙ ap (λ (ls : List ℕ). len ls m) (lengths-at K y (a .from-first)) in
       let v = a .valid in
       rw (
         no-month K y m,
@@ -122,13 +119,9 @@ module _ (K : Calendar) where
   pub given-date : (n : ℕ) → dateFor K n .number ≡ 0 → (K .firstDay ≤ n) × (n ≤ lastDay)
   unfolding dateFor
   given-date n e =
-      let q = gone (dayOut K n) e in
-      let N = neither (ltb lastDay n) (ltb n (K .firstDay)) q in
+      let q = passed (λ (a : DateAnswer). a .number) (dayOut K n) (noDateAnswer 5) _ (omega arith) e in
+      let N = neither (ltb lastDay n) (ltb n (K .firstDay)) (q .0) in
       (ltb-false n (K .firstDay) (N .1), ltb-false lastDay n (N .0))
-    where
-      gone : (t : Bool) → cond t (noDateAnswer 5) (dated K (dateOn K n)) .number ≡ 0 → t ≡ false
-      gone true e = absurd (omega arith)
-      gone false e = refl
 
   -- the day after has the date that follows
   pub next-date : (n : ℕ) → K .firstDay ≤ n → dateOn K (suc n) ≡ next (years K) (dateOn K n)
@@ -161,6 +154,17 @@ module _ (K : Calendar) (has-days : (i : ℕ) → 1 ≤ total (years K i)) where
       let g = counted (years K) has-days (n - K .firstDay) in
       let i = place-back (K .firstYear) (D .year) in
       record { from-first = not-before (K .firstYear) (D .year); to-last = l; valid = rw i (g .0); number = rw i (omega (arith, g .1)); small = k }
+
+-- where each way undoes the other, a date is given a day exactly where a day is given that date
+pub given-exactly : (day : ℤ → ℕ → ℕ → DayAnswer) (date : ℕ → DateAnswer)
+    → ((y : ℤ) (m d : ℕ) → day y m d .number ≡ 0 → date (day y m d .day) ≡ record { number = 0; year = y; month = m; day = d })
+    → ((n : ℕ) → date n .number ≡ 0 → let x = date n in day (x .year) (x .month) (x .day) ≡ record { number = 0; day = n })
+    → (y : ℤ) (m d : ℕ) → (day y m d .number ≡ 0) ↔ ((n : ℕ) × (date n ≡ record { number = 0; year = y; month = m; day = d }))
+given-exactly day date there back y m d =
+    let asked : DateAnswer → ℕ = λ x. day (x .year) (x .month) (x .day) .number in (
+      (λ e. (day y m d .day, there y m d e)),
+      λ x. sym (ap asked (x .1)) ∙ ap (λ (a : DayAnswer). a .number) (back (x .0) (ap (λ (a : DateAnswer). a .number) (x .1))),
+    )
 
 -- ---- order
 

@@ -2,3 +2,5 @@ pub mod Calendar
 pub mod Years
 pub mod Answers
 pub mod Order
+pub mod Given
+pub mod InYear

@@ -10,7 +10,7 @@ use mir.Syntax.{w64}
 use mir.Val.{Fits, SFits}
 use borrow.Author.Tests.{ltb-true, leb-true}
 use Rattle.computus.specs.Rule.{EasterAnswer, refused, inYears}
-use Rattle.easter.specs.Paper.{yearFrom}
+use Rattle.easter.specs.Years.{yearFrom}
 use Rattle.easter.specs.declared.Year.{Year}
 use Rattle.easter.specs.declared.Year.the-variants.{In, Out}
 

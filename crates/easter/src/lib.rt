@@ -2,7 +2,8 @@
 ghost use mathlib.Core.Path.{_≡_};
 ghost use Prim.Native.Nat.{_≤_, _<_};
 ghost use Rattle.computus.specs.Rule.{quotientR, gregorianM, gregorianN, ordinary, dated, easterOf, inYears, julianEaster, gregorianEaster, easterAnswer};
-ghost use Rattle.easter.specs.Paper.{datePaper, easterPaper, yearFrom};
+ghost use Rattle.easter.specs.Paper.{datePaper, easterPaper};
+ghost use Rattle.easter.specs.Years.{yearFrom};
 use refusals::Refusal;
 
 pub struct MonthDay {

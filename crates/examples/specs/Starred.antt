@@ -1,24 +1,18 @@
 -- The worked examples that document 01 marks with a star ("Plates from the proof drawer"), as one table, over the definitions that the promises cite:
 -- `dayAnswer` of crate calendar_rules for date to day, `fitOf` of crate lines for fitting.
 use mathlib.Core.Path.{_≡_}
-use mathlib.Core.List.{List, [], _∷_, _++_}
+use mathlib.Core.List.{List, [], _∷_}
 use Prim.Native.Nat.{ℕ}
 use lib.IntN.{ℤ, pos, negsuc}
 use Rattle.lines.specs.Fit.{Answer, line, refused, fitOf}
 use Rattle.counting.specs.Answers.{DayAnswer, noDayAnswer}
 use Rattle.calendar_rules.specs.Answers.{dayAnswer}
+use Rattle.calendar_rules.specs.Examples.{is}
 
 -- a question and its answer: the day of a date (calendar, year, month, day), or the line of a code
 pub data Example : Type 0 where
   date : ℕ → ℤ → ℕ → ℕ → DayAnswer → Example
   code : List ℕ → Answer → Example
-
--- date to day answers a day, or refuses with a number
-abbrev is : ℕ → DayAnswer
-is n = record { number = 0; day = n }
-
-abbrev refuses : ℕ → DayAnswer
-refuses = noDayAnswer
 
 abbrev pub starred : List Example
 starred =
@@ -30,10 +24,10 @@ starred =
     ∷ date 11 (pos 1582) 10 15 (is 2299161)
     -- Gregorian 2000/2/29 is 2451604; 1900/2/29 is refused 4
     ∷ date 11 (pos 2000) 2 29 (is 2451604)
-    ∷ date 11 (pos 1900) 2 29 (refuses 4)
+    ∷ date 11 (pos 1900) 2 29 (noDayAnswer 4)
     -- Islamic B 2/12/30 is 1949148; 1/12/30 is refused 4
     ∷ date 13 (pos 2) 12 30 (is 1949148)
-    ∷ date 13 (pos 1) 12 30 (refuses 4)
+    ∷ date 13 (pos 1) 12 30 (noDayAnswer 4)
     -- Hebrew 5784/1/1 is 2460204, and 5785/1/1 is 2460587
     ∷ date 18 (pos 5784) 1 1 (is 2460204)
     ∷ date 18 (pos 5785) 1 1 (is 2460587)
@@ -52,8 +46,3 @@ starred =
 abbrev pub Answered : Example → Type 0
 Answered (date c y m d a) = dayAnswer c y m d ≡ a
 Answered (code ls a) = fitOf ls ≡ a
-
--- each example of a table is
-abbrev pub AllAnswered : List Example → Type 0
-AllAnswered [] = Unit {0}
-AllAnswered (e ∷ es) = Answered e × AllAnswered es

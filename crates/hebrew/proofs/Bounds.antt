@@ -3,7 +3,8 @@ use Prim.Native.Nat.{ℕ, _+_, _*_, _-_, _/_, _≤_, _<_}
 use mathlib.Core.Path.{_≡_, ap}
 use native.Mathlib.Omega.{arith}
 use native.Mathlib.Decide.{decLt}
-use Rattle.hebrew.specs.Hebrew.{moon, newYear, YearOf}
+use Rattle.hebrew.specs.Hebrew.{moon, newYear}
+use Rattle.hebrew.proofs.Calendar.{YearOf}
 use Rattle.hebrew.proofs.Months.{months-closed}
 use Rattle.hebrew.proofs.Calendar.{start-is, year-unique}
 use Rattle.hebrew.proofs.Estimate.{estimate, estimate-right, estimate-high}

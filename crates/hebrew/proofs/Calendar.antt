@@ -1,10 +1,13 @@
 -- The Hebrew calendar in the sense of counting: its years begin on the days that the rules give, and every year has days.
-use Prim.Native.Nat.{ℕ, zero, suc, _+_, _-_, _≤_}
+use Prim.Native.Nat.{ℕ, zero, suc, _+_, _-_, _≤_, _<_}
 use mathlib.Core.Path.{_≡_, refl, sym, ap}
 use native.Mathlib.Omega.{arith}
-use Rattle.counting.specs.Calendar.{total, start, InYear}
+use Rattle.counting.specs.Calendar.{total, start}
+use Rattle.counting.specs.InYear.{InYear}
 use Rattle.counting.proofs.Counting.{one-year}
-use Rattle.hebrew.specs.Hebrew.{leap, monthsIn, monthsBefore, moon, moonDay, moonHour, secondApplies, thirdApplies, moved, fourthApplies, fourth, newYear, yearDays, YearOf, years}
+use Rattle.hebrew.specs.Hebrew.{leap, monthsIn, monthsBefore, moon, moonDay, moonHour, secondApplies, thirdApplies, moved, fourthApplies, fourth, newYear}
+use Rattle.hebrew.specs.Hebrew.{yearDays}
+use Rattle.hebrew.specs.Years.{years}
 use Rattle.hebrew.proofs.Lengths.{grows}
 use Rattle.hebrew.proofs.SixKinds.{lengths-total}
 
@@ -33,6 +36,12 @@ pub has-days : (i : ℕ) → 1 ≤ total (years i)
 has-days i = omega (arith, year-days i)
 
 -- ---- the year of a day
+
+-- day is in year y
+pub record YearOf (day y : ℕ) : Type 0 where
+  pub from-1 : 1 ≤ y
+  pub begun : newYear y ≤ day
+  pub still : day < newYear (y + 1)
 
 pub in-year : (day y : ℕ) → YearOf day y → InYear years (day - 347998) (y - 1)
 in-year day y h =

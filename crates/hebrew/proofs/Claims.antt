@@ -1,6 +1,7 @@
 -- What is shown of the Hebrew year, on one page. The definitions are those of specs/Hebrew.antt: document 01's rules give `leap`, `monthsBefore` and `newYear`,
--- the first day of a year as a Julian day number; `kinds` is the table of the six kinds; `lengths` gives a year the kind of its total, `years` is the calendar
--- in the sense of counting, `YearOf` says which year a day is in. `estimate` is in proofs/Estimate.antt.
+-- the first day of a year as a Julian day number; `kinds` is the table of the six kinds; `lengths` gives a year the kind of its total. `years` is the calendar
+-- in the sense of counting, its years counted from 0. `YearOf`, which year a day is in, is in proofs/Calendar.antt, `kindOf` in proofs/SixKinds.antt,
+-- `estimate` in proofs/Estimate.antt.
 use Prim.Native.Nat.{ℕ, suc, _+_, _*_, _-_, _/_, _≤_, _<_}
 use mathlib.Core.Path.{_≡_, refl}
 use mathlib.Core.Bool.{true, false}
@@ -9,13 +10,17 @@ use mathlib.Core.Logic.{_⊎_, inl, inr}
 use native.Mathlib.Omega.{arith}
 use native.Mathlib.Decide.{decLt}
 use lib.ListN.{getD, length}
-use Rattle.counting.specs.Calendar.{total, start, InYear}
-use Rattle.hebrew.specs.Hebrew.{leap, monthsBefore, newYear, yearDays, YearOf, kinds, totals, lengths, years, kindOf}
+use Rattle.counting.specs.Calendar.{total, start}
+use Rattle.counting.specs.InYear.{InYear}
+use Rattle.hebrew.specs.Hebrew.{leap, monthsBefore, newYear, yearDays, kinds, lengths}
+use Rattle.hebrew.specs.Years.{years}
 use Rattle.hebrew.proofs.Gates.{Apart}
 use Rattle.hebrew.proofs.Months as M
 use Rattle.hebrew.proofs.Lengths as L
 use Rattle.hebrew.proofs.SixKinds as K
+use Rattle.hebrew.proofs.SixKinds.{kindOf}
 use Rattle.hebrew.proofs.Calendar as C
+use Rattle.hebrew.proofs.Calendar.{YearOf}
 use Rattle.hebrew.proofs.Estimate as E
 use Rattle.hebrew.proofs.Estimate.{estimate}
 use Rattle.hebrew.proofs.Bounds as B
@@ -56,7 +61,7 @@ leap-year y h e = three 383 (newYear y) (newYear (y + 1)) (L.leap-length y h e)
 -- ---- the kinds
 
 -- the totals of the table's columns, and thirteen positions in each
-pub row-totals : map total kinds ≡ totals
+pub row-totals : map total kinds ≡ 353 ∷ 354 ∷ 355 ∷ 383 ∷ 384 ∷ 385 ∷ []
 row-totals = K.row-totals
 
 pub row-lengths : map length kinds ≡ 13 ∷ 13 ∷ 13 ∷ 13 ∷ 13 ∷ 13 ∷ []

@@ -3,7 +3,8 @@ use Prim.Native.Nat.{ℕ, suc, _+_, _*_, _-_, _/_, _≤_, _<_}
 use mathlib.Core.Path.{_≡_, ap}
 use native.Mathlib.Omega.{arith}
 use native.Mathlib.Decide.{decLt}
-use Rattle.hebrew.specs.Hebrew.{leap, moon, newYear, YearOf}
+use Rattle.hebrew.specs.Hebrew.{leap, moon, newYear}
+use Rattle.hebrew.proofs.Calendar.{YearOf}
 use Rattle.hebrew.proofs.Months.{months-suc}
 use Rattle.hebrew.proofs.Gates.{near}
 use Rattle.hebrew.proofs.Rules.{monday-le, tuesday-le}

@@ -78,7 +78,8 @@ abbrev Pairs : (ℕ → Gate) → (ℕ → Gate) → ℕ → ℕ → Type 0
 Pairs g g′ jump low = Each 4 (λ (k : ℕ). Each 4 (λ (k′ : ℕ). Pair (g k) (g′ k′) jump low))
 
 -- for any jump
-apart : {take give take′ give′ : Handed} {m n n′ : ℕ} (jump low : ℕ) → Pairs (gate take give) (gate take′ give′) jump low → Begins take give m n → Begins take′ give′ (m + jump) n′ → Apart low n n′
+apart : {take give take′ give′ : Handed} {m n n′ : ℕ} (jump low : ℕ) → Pairs (gate take give) (gate take′ give′) jump low
+    → Begins take give m n → Begins take′ give′ (m + jump) n′ → Apart low n n′
 apart {take} {give} {take′} {give′} {m} {n} {n′} jump low all b b′ =
     let g = gate take give in
     let g′ = gate take′ give′ in

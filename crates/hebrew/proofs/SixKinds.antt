@@ -7,7 +7,7 @@ use native.Mathlib.Omega.{arith}
 use lib.ListN.{getD, length}
 use Rattle.counting.specs.Calendar.{total}
 use Rattle.basics.proofs.Cases.{each}
-use Rattle.hebrew.specs.Hebrew.{leap, yearDays, kinds, totals, ofTotal, lengths, kindOf}
+use Rattle.hebrew.specs.Hebrew.{leap, yearDays, kinds, ofTotal, lengths}
 use Rattle.hebrew.proofs.Lengths.{year-length}
 
 map-at : {A B : Type 0} (f : A → B) (l : List A) (k : ℕ) (a : A) (b : B) → k < length l → getD (map f l) k b ≡ f (getD l k a)
@@ -16,6 +16,10 @@ map-at f (x ∷ l) zero a b h = refl
 map-at f (x ∷ l) (suc k) a b h = map-at f l k a b (omega arith)
 
 -- ---- the table, computed
+
+-- their totals
+abbrev pub totals : List ℕ
+totals = 353 ∷ 354 ∷ 355 ∷ 383 ∷ 384 ∷ 385 ∷ []
 
 pub row-totals : map total kinds ≡ totals
 unfolding total
@@ -40,6 +44,10 @@ pub row-length : (k : ℕ) → k < 6 → length (getD kinds k []) ≡ 13
 row-length = each 6 (λ (k : ℕ). length (getD kinds k []) ≡ 13) (omega arith)
 
 -- ---- the kind of a length
+
+-- where a kind stands in `kinds`, from whether its years are leap and the days that they have
+unfoldable pub kindOf : Bool → ℕ → ℕ
+kindOf leapNow days = cond leapNow (days - 380) (days - 353)
 
 pub record Kind (leapNow : Bool) (days : ℕ) : Type 0 where
   pub below : kindOf leapNow days < 6

@@ -1,6 +1,6 @@
 -- The Hebrew calendar, number 18, by the rules of document 01, "The Hebrew year". Years count from 1; a day is its Julian day number; a day begins at
 -- 6 in the evening and has 24 hours of 1,080 parts.
-use Prim.Native.Nat.{ℕ, zero, suc, _+_, _*_, _-_, _/_, _%_, _≤_, _<_}
+use Prim.Native.Nat.{ℕ, zero, suc, _+_, _*_, _-_, _/_, _%_}
 use mathlib.Core.Bool.{Bool, cond, not, _&&_, _||_}
 use mathlib.Core.List.{List, [], _∷_}
 use lib.Dec.{leb, ltb, eqb}
@@ -87,12 +87,6 @@ newYear y = fourth (moved (leap y) (leap (y - 1)) (moonDay y) (moonHour y))
 abbrev pub yearDays : ℕ → ℕ
 yearDays y = newYear (y + 1) - newYear y
 
--- day is in year y
-pub record YearOf (day y : ℕ) : Type 0 where
-  pub from-1 : 1 ≤ y
-  pub begun : newYear y ≤ day
-  pub still : day < newYear (y + 1)
-
 -- ---- the lengths of the positions
 
 -- the six kinds of year: common deficient, regular, abundant, then leap deficient, regular, abundant. Position 7 of a common year is no month
@@ -106,10 +100,6 @@ kinds =
     ∷ (30 ∷ 30 ∷ 30 ∷ 29 ∷ 30 ∷ 30 ∷ 29 ∷ 30 ∷ 29 ∷ 30 ∷ 29 ∷ 30 ∷ 29 ∷ [])
     ∷ []
 
--- their totals
-abbrev pub totals : List ℕ
-totals = 353 ∷ 354 ∷ 355 ∷ 383 ∷ 384 ∷ 385 ∷ []
-
 -- the first of some lists that has total n
 unfoldable pub ofTotal : ℕ → List (List ℕ) → List ℕ
 ofTotal n [] = []
@@ -118,11 +108,3 @@ ofTotal n (ls ∷ rest) = cond (eqb (total ls) n) ls (ofTotal n rest)
 -- a year's kind is the one whose total is the number of days from its first day to the next year's first day
 unfoldable pub lengths : ℕ → List ℕ
 lengths y = ofTotal (yearDays y) kinds
-
--- the calendar: its years counted from 0, so that the year at i is year i + 1
-unfoldable pub years : ℕ → List ℕ
-years i = lengths (i + 1)
-
--- where a kind stands in `kinds`, from whether its years are leap and the days that they have
-unfoldable pub kindOf : Bool → ℕ → ℕ
-kindOf leapNow days = cond leapNow (days - 380) (days - 353)

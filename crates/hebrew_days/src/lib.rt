@@ -6,7 +6,8 @@ ghost use mathlib.Core.List.{[]};
 ghost use mathlib.Core.Path.{_≡_};
 ghost use Prim.Native.Nat.{_+_, _-_, _%_, _≤_, _<_};
 ghost use lib.ListN.{getD};
-ghost use Rattle.hebrew.specs.Hebrew.{secondApplies, thirdApplies, moved, fourth, newYear, kinds, years};
+ghost use Rattle.hebrew.specs.Hebrew.{secondApplies, thirdApplies, moved, fourth, newYear, kinds};
+ghost use Rattle.hebrew.specs.Years.{years};
 ghost use Rattle.calendar_rules.specs.Shapes.{YearIs};
 ghost use Rattle.parts.specs.Years.{FoundIs};
 

@@ -1,7 +1,7 @@
 -- The year of a day, as it is found.
 use Prim.Native.Nat.{ℕ}
 use mathlib.Core.List.{List}
-use Rattle.counting.specs.Calendar.{InYear}
+use Rattle.counting.specs.InYear.{InYear}
 use Rattle.calendar_rules.specs.Shapes.{YearIs}
 
 -- in a calendar with the years L and the common shape a, day n from its first is in the year i years after its first, which begins there and has that shape

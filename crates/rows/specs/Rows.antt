@@ -5,7 +5,7 @@ use mathlib.Core.List.{List}
 use mathlib.Core.Option.{Option}
 use lib.Signed.{mag}
 use Rattle.counting.specs.Answers.{Calendar, years}
-use Rattle.hebrew.specs.Hebrew.{years as hebrewYears}
+use Rattle.hebrew.specs.Years.{years as hebrewYears}
 use Rattle.calendar_rules.specs.Calendars.{calendar, Listed}
 use Rattle.calendar_rules.specs.Shapes.{Common, Alone, centuries, daysBelow, plainYears, fourthYears, leapByYears, islamicYears}
 use Rattle.rows.specs.declared.LeapRule.{LeapRule}

@@ -4,7 +4,7 @@ use borrow.Author.Needs.{needs}
 use mir.Syntax.{w64}
 use mir.ValLaws.{toZ-ofZ}
 use Rattle.computus.specs.Rule.{gregorianEaster}
-use Rattle.easter.specs.Paper.{yearFrom}
+use Rattle.easter.specs.Years.{yearFrom}
 use Rattle.easter.proofs.Years.{asked-for, at-most-9999}
 use Rattle.easter.proofs.gregorian.Statement.{statement}
 use Rattle.easter.proofs.gregorian.Tie as tie

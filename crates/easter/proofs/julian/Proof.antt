@@ -4,7 +4,7 @@ use borrow.Author.Needs.{needs}
 use mir.Syntax.{w64}
 use mir.ValLaws.{toZ-ofZ}
 use Rattle.computus.specs.Rule.{julianEaster}
-use Rattle.easter.specs.Paper.{yearFrom}
+use Rattle.easter.specs.Years.{yearFrom}
 use Rattle.easter.proofs.Years.{asked-for}
 use Rattle.easter.proofs.julian.Statement.{statement}
 use Rattle.easter.proofs.julian.Tie as tie

@@ -1,0 +1,77 @@
+-- Worked examples that tie the rows and the limits to the world: for each row of the table a date and its day as an outside program has them, or one derived
+-- from such, and what is answered at the limits. proofs/Claims.antt shows that each is answered so.
+use Prim.Native.Nat.{ℕ}
+use mathlib.Core.Path.{_≡_}
+use mathlib.Core.List.{List, [], _∷_}
+use lib.IntN.{ℤ, pos, negsuc}
+use Rattle.counting.specs.Answers.{DayAnswer, noDayAnswer, DateAnswer, noDateAnswer, LengthAnswer, noLengthAnswer}
+use Rattle.calendar_rules.specs.Answers.{dayAnswer, dateAnswer, lengthAnswer}
+
+-- a question and its answer: the day of a date (calendar, year, month, day), the date of a day, the length of a position
+pub data Example : Type 0 where
+  date : ℕ → ℤ → ℕ → ℕ → DayAnswer → Example
+  day : ℕ → ℕ → DateAnswer → Example
+  position : ℕ → ℤ → ℕ → LengthAnswer → Example
+
+-- it is answered so
+abbrev pub Answered : Example → Type 0
+Answered (date c y m d a) = dayAnswer c y m d ≡ a
+Answered (day c n a) = dateAnswer c n ≡ a
+Answered (position c y m a) = lengthAnswer c y m ≡ a
+
+abbrev pub is : ℕ → DayAnswer
+is n = record { number = 0; day = n }
+
+abbrev has : ℕ → LengthAnswer
+has n = record { number = 0; days = n }
+
+-- where there is one, a leap day or a day of the position that is shorter
+abbrev pub rows : List Example
+rows =
+    -- gcal 4.1, whose years are 3496 more
+    date 1 (pos 791) 12 1 (is 1737318)
+    -- convertdate 2.4.0; from its Armenian dates, with years 80 less, and then 5 days earlier with the 5 days at position 9
+    ∷ date 2 (pos 29) 13 5 (is 1933452)
+    ∷ date 3 (pos 37) 13 5 (is 1965572)
+    ∷ date 4 (pos 29) 9 5 (is 1962527)
+    -- ICU 72.1, Joda-Time 2.10.14, PHP 8.2
+    ∷ date 5 (pos 2623) 13 6 (is 2682271)
+    ∷ date 6 (pos 307) 13 6 (is 1937161)
+    ∷ date 7 (pos 8) 8 30 (is 2378636)
+    -- from Ruby 3.1's Julian dates, with years 312 more, from September and from October
+    ∷ date 8 (pos 35) 6 29 (is 1620308)
+    ∷ date 9 (pos 35) 5 29 (is 1620308)
+    -- Joda-Time 2.10.14, OpenJDK 17, ICU 72.1, Emacs 28.2 twice
+    ∷ date 10 (negsuc 4711) 2 29 (is 59)
+    ∷ date 11 (negsuc 4711) 2 29 (is 97)
+    ∷ date 12 (pos 5) 12 30 (is 1950210)
+    ∷ date 13 (pos 146) 12 30 (is 2000177)
+    ∷ date 14 (pos 24) 19 5 (is 2403393)
+    -- from convertdate 2.4.0's Julian dates, and its own
+    ∷ date 15 (pos 22) 1 31 (is 1757695)
+    ∷ date 18 (pos 2) 3 30 (is 348442)
+    ∷ []
+
+abbrev pub limits : List Example
+limits =
+    -- Gregorian 9999/12/31 is 5373484, the last day; 10000/1/1 is refused 5
+    date 11 (pos 9999) 12 31 (is 5373484)
+    ∷ date 11 (pos 10000) 1 1 (noDayAnswer 5)
+    ∷ day 11 5373484 (record { number = 0; year = pos 9999; month = 12; day = 31 })
+    ∷ day 11 5373485 (noDateAnswer 5)
+    -- the first days
+    ∷ day 11 38 (record { number = 0; year = negsuc 4711; month = 1; day = 1 })
+    ∷ day 11 37 (noDateAnswer 5)
+    -- years 1 and -4712 are the first, year 20,000 the last
+    ∷ position 1 (pos 0) 1 (noLengthAnswer 2)
+    ∷ position 1 (pos 1) 1 (has 30)
+    ∷ position 10 (negsuc 4712) 1 (noLengthAnswer 2)
+    ∷ position 10 (negsuc 4711) 1 (has 31)
+    ∷ position 1 (pos 20000) 13 (has 5)
+    ∷ position 1 (pos 20001) 13 (noLengthAnswer 2)
+    -- no other number is listed
+    ∷ position 0 (pos 1) 1 (noLengthAnswer 1)
+    ∷ position 16 (pos 1) 1 (noLengthAnswer 1)
+    ∷ position 17 (pos 1) 1 (noLengthAnswer 1)
+    ∷ position 19 (pos 1) 1 (noLengthAnswer 1)
+    ∷ []

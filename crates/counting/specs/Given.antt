@@ -1,0 +1,38 @@
+-- Document 01's table "Answer numbers" as it is worded: which numbers apply to a question, and which one is given. The claims page shows that each answer's
+-- number is the one given here. (1, a number that is no calendar's, is tried where calendars are looked up by number.)
+use Prim.Native.Nat.{ℕ, _<_, _≤_}
+use mathlib.Core.Path.{_≡_}
+use mathlib.Core.Bool.{true}
+use lib.IntN.{ℤ, pos}
+use lib.ListN.{length}
+use lib.Signed.{ltZ}
+use Rattle.counting.specs.Answers.{Calendar, lengthIn, dayNumber}
+
+-- the lowest applying number is given; 0, done, where none applies
+pub data Given (Applies : ℕ → Type 0) : ℕ → Type 0 where
+  done : ((j : ℕ) → ¬ Applies j) → Given Applies 0
+  lowest : {k : ℕ} → Applies k → ((j : ℕ) → j < k → ¬ Applies j) → Given Applies k
+
+-- to day n: 5, day above 5,373,484, or before the calendar's first day
+pub data OfDay (K : Calendar) (n : ℕ) : ℕ → Type 0 where
+  above-5373484 : 5373484 < n → OfDay K n 5
+  before-first : n < K .firstDay → OfDay K n 5
+
+-- to the date y/m/d
+pub data OfDate (K : Calendar) (y : ℤ) (m d : ℕ) : ℕ → Type 0 where
+  -- 2: year below the calendar's first or above 20,000
+  below-first : ltZ y (K .firstYear) ≡ true → OfDate K y m d 2
+  above-20000 : ltZ (pos 20000) y ≡ true → OfDate K y m d 2
+  -- 3: month 0, above the positions, or of no days that year
+  month-0 : m ≡ 0 → OfDate K y m d 3
+  above-positions : length (K .lengths y) < m → OfDate K y m d 3
+  no-days : lengthIn K y m ≡ 0 → OfDate K y m d 3
+  -- 4: day 0 or beyond the month
+  day-0 : d ≡ 0 → OfDate K y m d 4
+  beyond-month : lengthIn K y m < d → OfDate K y m d 4
+  -- 5, as to its day
+  its-day : {k : ℕ} → OfDay K (dayNumber K y m d) k → OfDate K y m d k
+
+-- to position m of year y: 2 and 3, as to every date there
+abbrev pub OfPosition : Calendar → ℤ → ℕ → ℕ → Type 0
+OfPosition K y m k = (k ≤ 3) × ((d : ℕ) → OfDate K y m d k)
