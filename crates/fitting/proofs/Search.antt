@@ -13,7 +13,7 @@ use Rattle.lines.specs.BandTest.{sumTo, passes}
 use Rattle.lines.specs.Fit.{Within, line, refused, fitOf}
 use Rattle.basics.proofs.Order.{le-or-lt}
 use Rattle.lines.proofs.Normal.{sum-zero}
-use Rattle.lines.proofs.Recognition.{fit-hit, fit-miss}
+use Rattle.lines.proofs.Recognition.{fit-hit, fit-miss, fit-outside}
 use Rattle.lines.proofs.Search.{Open, open-start, open-next, open-end, closed-above, closed-below, sum-small}
 
 -- how large the numbers of the band test are: an offset is below the denominator, and y and a k are a sum of lengths and its multiple
@@ -134,5 +134,8 @@ module _ (code : List ℕ) where
           }
 
   -- no denominator is left
-  pub miss : {b a : ℕ} → Within code → Tried b a → b ≡ length code → fitOf code ≡ refused 7
-  miss w t e = fit-miss code w (λ j p l. t .failed j p (omega arith))
+  pub miss : {b a k : ℕ} → Within code → Tried b a → b ≡ length code → k ≡ 7 → refused k ≡ fitOf code
+  miss w t e p = ap refused p ∙ sym (fit-miss code w (λ j p l. t .failed j p (omega arith)))
+
+  pub outside : {k : ℕ} → (¬ Within code) → k ≡ 6 → refused k ≡ fitOf code
+  outside h p = ap refused p ∙ sym (fit-outside code h)

@@ -1,8 +1,9 @@
 -- `fitting::fit` meets its contract.
 use borrow.Author.Needs.{needs}
 use mathlib.Core.Path.{sym, _∙_}
-use Rattle.lines.proofs.Recognition.{fit-outside}
+use native.Mathlib.Omega.{arith}
 use Rattle.lines.proofs.Tests.{within-is, within-not}
+use Rattle.fitting.proofs.Search.{outside}
 use Rattle.fitting.proofs.fit.Statement.{statement}
 use Rattle.fitting.proofs.fit.Tie as tie
 
@@ -16,7 +17,7 @@ returns : tie.Need-returns
 returns c = search needs
 
 returns-2 : tie.Need-returns-2
-returns-2 c = sym (fit-outside _ (within-not _ .0 (sym (c .before .within-limits .ensures) ∙ c .if1 .left)))
+returns-2 c = outside _ (within-not _ .0 (sym (c .before .within-limits .ensures) ∙ c .if1 .left)) (omega arith)
 
 pub fit-spec : {M : Type 1} → statement M
 fit-spec = tie.close (tie.spec within-limits-requires least-denominator-requires returns returns-2)

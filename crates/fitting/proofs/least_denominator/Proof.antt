@@ -1,9 +1,9 @@
 -- `fitting::least_denominator` meets its contract: at the head of the outer loop the denominators so far have failed (`Tried`), at the head of the inner one
 -- the marks so far allow the offsets from `low` to `high` (`Tested`).
-use mathlib.Core.Path.{sym}
+use mathlib.Core.Path.{_≡_, _∙_}
 use mathlib.Core.Logic.{⊎-elim}
 use mathlib.Core.List.{List}
-use Prim.Native.Nat.{ℕ, _<_, _-_, _+_}
+use Prim.Native.Nat.{ℕ, _≤_, _<_, _-_, _+_, _*_, min, max}
 use native.Mathlib.Omega.{arith}
 use lib.ListN.{length, getD}
 use Rattle.fitting.proofs.Search.{Tried, Tested, Small, none-tried, begun, hit, next, fails-above, fails-below, small, slope-small, miss}
@@ -30,6 +30,15 @@ untried : (c : tie.Else1 Inv-loop μ-loop Inv-denominators μ-denominators)
     → c .before .denominators .tried < length (c .before .before .before .args .code .now)
 untried c = omega (arith, c .if1 .left, c .before .denominators .inv .few)
 
+-- what `raised` and `lowered` give, at numbers that are those of the band
+raised-to : {r low level reach low′ level′ reach′ : ℕ} → r ≡ max low (level - reach) → low ≡ low′ → level ≡ level′ → reach ≡ reach′
+    → r ≡ max low′ (level′ - reach′)
+raised-to e p q s = e ∙ (λ i. max (p i) (q i - s i))
+
+lowered-to : {r high top reach high′ top′ reach′ : ℕ} → r ≡ min high (top - reach) → high ≡ high′ → top ≡ top′ → reach ≡ reach′
+    → r ≡ min high′ (top′ - reach′)
+lowered-to e p q s = e ∙ (λ i. min (p i) (q i - s i))
+
 fewer : {n k : ℕ} → k < n → n - (k + 1) < n - k
 fewer h = omega arith
 
@@ -55,6 +64,15 @@ module _ (c : Place) where
 
   sizes : let l = c .before .before .loop in Small b (l .low) (l .high) (l .y + getD code k 0) (l .reach + a)
   sizes = small code (c .before .before .loop .inv) more (c .before .before .before .before .before .before .before .pre)
+
+-- past both tests the mark leaves some offsets
+inside : (c : tie.Else4 Inv-loop μ-loop Inv-denominators μ-denominators)
+    → let d = c .before .before in
+    let l = d .before .before .loop in
+    let level = b d * (l .y + getD (code d) (k d) 0) in
+    let reach = l .reach + a d in
+    (reach + l .low ≤ level + b d - 1) × (level ≤ reach + l .high)
+inside c = (omega arith, omega arith)
 
 mul-a : tie.Need-mul-a Inv-loop μ-loop Inv-denominators μ-denominators
 mul-a c = omega arith
@@ -129,12 +147,14 @@ loop-less c = fewer (more (c .before .before .before .before))
 loop-again : tie.Need-loop-again Inv-loop μ-loop Inv-denominators μ-denominators
 loop-again c =
     let d = c .before .before .before .before in
-    next (code d) (d .before .before .loop .inv) (more d) (omega arith) (omega arith) _ _ (omega (arith, c .before .raised .ensures))
-    (omega (arith, c .lowered .ensures))
+    let h = inside (c .before .before) in
+    next (code d) (d .before .before .loop .inv) (more d) (h .0) (h .1) _ _
+    (raised-to (c .before .raised .ensures) (omega arith) (omega arith) (omega arith))
+    (lowered-to (c .lowered .ensures) (omega arith) (omega arith) (omega arith))
 
 returns : tie.Need-returns Inv-loop μ-loop Inv-denominators μ-denominators
 returns c =
-    ⊎-elim (λ w. sym (miss _ (c .before .before .before .before .pre) (c .before .before .denominators .inv) (omega arith)))
+    ⊎-elim (λ w. miss _ (c .before .before .before .before .pre) (c .before .before .denominators .inv) (omega arith) (omega arith))
     (λ w. absurd (omega (arith, c .if5 .taken, w .7)))
     (c .before .if1 .came)
 
