@@ -1,6 +1,7 @@
 -- Two ways to prove by cases: of a computed choice, and of each number below a bound.
-use mathlib.Core.Path.{_≡_, refl, sym}
-use mathlib.Core.Bool.{Bool, true, false, cond, _&&_, _||_}
+use mathlib.Core.Path.{_≡_, refl, sym, _∙_}
+use mathlib.Core.Logic.{_↔_}
+use mathlib.Core.Bool.{Bool, true, false, cond, _&&_, _||_, true≢false}
 use Prim.Native.Nat.{ℕ, zero, suc, _<_}
 use native.Mathlib.Omega.{arith}
 
@@ -14,10 +15,26 @@ pub both : (t u : Bool) → (t && u) ≡ true → (t ≡ true) × (u ≡ true)
 both true u e = (refl, e)
 both false u e = let z : _≡_ {A = ℕ} 0 1 = cc in absurd (omega arith)
 
+pub both-hold : (t u : Bool) → t ≡ true → u ≡ true → (t && u) ≡ true
+both-hold t u p q = rw (p, q)
+
 -- where one or the other would do and does not, neither holds
 pub neither : (t u : Bool) → (t || u) ≡ false → (t ≡ false) × (u ≡ false)
 neither false u e = (refl, e)
 neither true u e = let z : _≡_ {A = ℕ} 0 1 = cc in absurd (omega arith)
+
+-- a test that cannot fail holds, and one that cannot hold fails
+pub holds : (t : Bool) → (t ≡ false → ⊥) → t ≡ true
+holds true f = refl
+holds false f = absurd (f refl)
+
+pub fails : (t : Bool) → (t ≡ true → ⊥) → t ≡ false
+fails true f = absurd (f refl)
+fails false f = refl
+
+-- so a test that holds just where P does fails just where P does not
+pub fails-where : (t : Bool) {P : Type 0} → (t ≡ true) ↔ P → (t ≡ false) ↔ (¬ P)
+fails-where t i = (λ e p. true≢false (sym (i .1 p) ∙ e), λ h. fails t (λ e. h (i .0 e)))
 
 -- tests that come out alike
 pub same-test : (t u : Bool) → (t ≡ true → u ≡ true) → (t ≡ false → u ≡ false) → t ≡ u

@@ -6,7 +6,8 @@ use Prim.Native.Nat.{ℕ, _+_, _-_, _*_, _/_, _%_, _≤_, _<_}
 use native.Mathlib.Omega.{arith}
 use lib.Dec.{eqb, ltb, leb}
 use borrow.Author.Tests.{eqb-true, eqb-false, lt-ltb, le-ltb, leb-true, leb-false}
-use Rattle.lines.specs.Marks.{markAt, lastAt, carry}
+use Rattle.lines.specs.Marks.{markAt}
+use Rattle.lines.proofs.Marks.{lastAt, carry}
 use Rattle.counting.specs.Calendar.{total, start}
 use Rattle.counting.specs.InYear.{InYear}
 use Rattle.counting.proofs.Starts.{even-start, year-by-mark}

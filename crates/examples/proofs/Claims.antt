@@ -8,9 +8,9 @@ use Rattle.counting.specs.Calendar.{total, start, dayOf}
 use Rattle.hebrew.specs.Hebrew.{leap, monthsIn, monthsBefore, moon, moonDay, moonHour, secondApplies, thirdApplies, moved, fourthApplies, fourth, newYear}
 use Rattle.hebrew.specs.Hebrew.{ofTotal}
 use Rattle.hebrew.specs.Hebrew.{lengths as hebrewLengths}
-use Rattle.lines.specs.Line.{sumTo}
+use Rattle.lines.specs.BandTest.{within, sumTo, peak, offsetOf, passes, first}
 use Rattle.basics.specs.Every.{every, All}
-use Rattle.lines.specs.Fit.{first, peak, within, offset, offsetOf, passes, answerOf, fitOf}
+use Rattle.lines.specs.Fit.{answerOf, fitOf}
 use Rattle.counting.specs.Answers.{years, dayFor}
 use Rattle.counting.proofs.Starts.{start-same}
 use Rattle.hebrew.proofs.Calendar.{start-is}
@@ -29,6 +29,6 @@ unfolding dayAnswer calendar lookup dayFor dayOf total
 hebrew-years = (rw (before-year 5783 2460204 refl) refl, rw (before-year 5784 2460587 refl) refl)
 
 pub starred-answered : All Answered starred
-unfolding dayAnswer calendar lookup dayFor years dayOf start total fitOf within every passes offsetOf offset peak sumTo first answerOf
+unfolding dayAnswer calendar lookup dayFor years dayOf start total fitOf within every passes offsetOf peak sumTo first answerOf
 starred-answered =
     (refl, (refl, (refl, (refl, (refl, (refl, (refl, (refl, (hebrew-years .0, (hebrew-years .1, (refl, (refl, (refl, (refl, (refl, (refl, tt))))))))))))))))

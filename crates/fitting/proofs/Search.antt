@@ -1,20 +1,19 @@
 -- What holds at the heads of the two loops of `least_denominator`, and how it goes on: the denominators that have failed, and the marks that the present
 -- denominator has met.
-use mathlib.Core.Path.{_≡_, refl, sym, ap, _∙_, subst}
+use mathlib.Core.Path.{_≡_, refl, sym, ap, _∙_}
 use mathlib.Core.Logic.{⊎-elim}
 use mathlib.Core.List.{List}
-use mathlib.Core.Bool.{not}
+use mathlib.Core.Bool.{false}
 use Prim.Native.Nat.{ℕ, suc, _+_, _*_, _-_, _≤_, _<_, min, max}
 use native.Mathlib.Nat.{mul-le-mul}
 use native.Mathlib.Numerals.{add-one}
 use native.Mathlib.Omega.{arith}
-use lib.Dec.{T}
 use lib.ListN.{length, getD}
-use Rattle.lines.specs.Line.{sumTo}
-use Rattle.lines.specs.Fit.{Within, line, refused, passes, fitOf}
+use Rattle.lines.specs.BandTest.{sumTo, passes}
+use Rattle.lines.specs.Fit.{Within, line, refused, fitOf}
 use Rattle.basics.proofs.Order.{le-or-lt}
 use Rattle.lines.proofs.Normal.{sum-zero}
-use Rattle.lines.proofs.Recognition.{fit-hit, fit-miss}
+use Rattle.lines.proofs.Recognition.{fit-hit, fit-miss, fit-outside}
 use Rattle.lines.proofs.Search.{Open, open-start, open-next, open-end, closed-above, closed-below, sum-small}
 
 -- how large the numbers of the band test are: an offset is below the denominator, and y and a k are a sum of lengths and its multiple
@@ -31,14 +30,14 @@ module _ (code : List ℕ) where
   pub record Tried (b a : ℕ) : Type 0 where
     pub few : b ≤ length code
     pub slope : a ≡ sumTo code b
-    pub failed : (j : ℕ) → 0 < j → j ≤ b → T (not (passes code j))
+    pub failed : (j : ℕ) → 0 < j → j ≤ b → passes code j ≡ false
 
   -- those below b have failed, and the marks of b up to k allow the offsets from low to high
   pub record Tested (b a k low high y reach : ℕ) : Type 0 where
     pub proper : 0 < b
     pub few : b ≤ length code
     pub slope : a ≡ sumTo code b
-    pub failed : (j : ℕ) → 0 < j → j < b → T (not (passes code j))
+    pub failed : (j : ℕ) → 0 < j → j < b → passes code j ≡ false
     pub so-far : k ≤ length code
     pub sum : y ≡ sumTo code k
     pub along : reach ≡ a * k
@@ -48,17 +47,17 @@ module _ (code : List ℕ) where
   unfolding sumTo
   sum-next k = sym (ap (sumTo code) (add-one k))
 
-  pub none-tried : Tried 0 0
+  pub none-tried : {b a : ℕ} → b ≡ 0 → a ≡ 0 → Tried b a
   unfolding sumTo
-  none-tried = record { few = omega arith; slope = refl; failed = λ j h l. absurd (omega arith) }
+  none-tried e f = record { few = omega arith; slope = f ∙ ap (sumTo code) (sym e); failed = λ j h l. absurd (omega arith) }
 
   pub slope-small : {b a : ℕ} → Within code → Tried b a → b < length code → a + getD code b 0 ≤ 204800
   slope-small {b} w t h = omega (arith, t .slope, sum-small code w b (t .few), w .small b h, w .few)
 
   -- the next denominator
-  pub begun : {b a : ℕ} → Tried b a → b < length code → Tested (b + 1) (a + getD code b 0) 0 0 (b + 1 - 1) 0 0
+  pub begun : {b a low high : ℕ} → Tried b a → b < length code → low ≡ 0 → suc high ≡ b + 1 → Tested (b + 1) (a + getD code b 0) 0 low high 0 0
   unfolding sumTo
-  begun {b} {a} t h =
+  begun {b} {a} {low} {high} t h l u =
       record {
         proper = omega arith;
         few = omega arith;
@@ -67,23 +66,23 @@ module _ (code : List ℕ) where
         so-far = omega arith;
         sum = refl;
         along = omega arith;
-        allowed = open-start code (b + 1) (omega arith);
+        allowed = let e : high ≡ b + 1 - 1 = omega arith in rw (l, e) (open-start code (b + 1) (omega arith));
       }
 
   module _ {b a k low high y reach : ℕ} (t : Tested b a k low high y reach) where
-    failed-too : T (not (passes code b)) → Tried b a
+    failed-too : passes code b ≡ false → Tried b a
     failed-too f =
         record {
           few = t .few;
           slope = t .slope;
-          failed = λ j p l. ⊎-elim (λ m. t .failed j p m) (λ m. let e : b ≡ j = omega arith in subst (λ (i : ℕ). T (not (passes code i))) e f) (le-or-lt (suc j) b);
+          failed = λ j p l. ⊎-elim (λ m. t .failed j p m) (λ m. let e : j ≡ b = omega arith in ap (passes code) e ∙ f) (le-or-lt (suc j) b);
         }
 
     -- no mark is left
-    pub hit : Within code → k ≡ length code → fitOf code ≡ line a b low
-    hit w e =
+    pub hit : {c d s : ℕ} → Within code → k ≡ length code → c ≡ a → d ≡ b → s ≡ low → line c d s ≡ fitOf code
+    hit w e p q u =
         let o = open-end code b k low high (t .allowed) e in
-        fit-hit code b w (t .proper) (t .few) (o .1) (t .failed) ∙ (λ i. line (sym (t .slope) i) b (sym (o .0) i))
+        (λ i. line ((p ∙ t .slope) i) (q i) ((u ∙ o .0) i)) ∙ sym (fit-hit code b w (t .proper) (t .few) (o .1) (t .failed))
 
     module _ (h : k < length code) where
       -- the sum, a k and b y at the next mark
@@ -97,8 +96,9 @@ module _ (code : List ℕ) where
       next-level = ap (λ (x : ℕ). b * x) next-sum
 
       pub next : reach + a + low ≤ b * (y + getD code k 0) + b - 1 → b * (y + getD code k 0) ≤ reach + a + high
-          → Tested b a (k + 1) (max low (b * (y + getD code k 0) - (reach + a))) (min high (b * (y + getD code k 0) + b - 1 - (reach + a))) (y + getD code k 0) (reach + a)
-      next under over =
+          → (low′ high′ : ℕ) → low′ ≡ max low (b * (y + getD code k 0) - (reach + a)) → high′ ≡ min high (b * (y + getD code k 0) + b - 1 - (reach + a))
+          → Tested b a (k + 1) low′ high′ (y + getD code k 0) (reach + a)
+      next under over low′ high′ l u =
           record {
             proper = t .proper;
             few = t .few;
@@ -108,7 +108,7 @@ module _ (code : List ℕ) where
             sum = next-sum ∙ ap (sumTo code) (sym (add-one k));
             along = omega (arith, t .along);
             allowed =
-                rw (add-one k, next-reach, next-level)
+                rw (l, u, add-one k, next-reach, next-level)
                 (open-next code b k low high (t .allowed) (omega (arith, next-reach, next-level, t .proper)) (omega (arith, next-reach, next-level)));
           }
 
@@ -134,5 +134,8 @@ module _ (code : List ℕ) where
           }
 
   -- no denominator is left
-  pub miss : {b a : ℕ} → Within code → Tried b a → b ≡ length code → fitOf code ≡ refused 7
-  miss w t e = fit-miss code w (λ j p l. t .failed j p (omega arith))
+  pub miss : {b a k : ℕ} → Within code → Tried b a → b ≡ length code → k ≡ 7 → refused k ≡ fitOf code
+  miss w t e p = ap refused p ∙ sym (fit-miss code w (λ j p l. t .failed j p (omega arith)))
+
+  pub outside : {k : ℕ} → (¬ Within code) → k ≡ 6 → refused k ≡ fitOf code
+  outside h p = ap refused p ∙ sym (fit-outside code h)

@@ -5,7 +5,8 @@ ghost use mathlib.Core.Bool.{true};
 ghost use mathlib.Core.List.{_++_};
 ghost use Prim.Native.Nat.{_+_, _-_, _≤_, _<_, min, max};
 ghost use lib.ListN.{length, drop};
-ghost use Rattle.lines.specs.Fit.{Within, within, fitOf};
+ghost use Rattle.lines.specs.BandTest.{within};
+ghost use Rattle.lines.specs.Fit.{Within, fitOf};
 ghost use Rattle.lines.specs.Unfold.{lineWithin, unfolded, unfoldNumber, unfoldBuffer};
 ghost use Rattle.fitting.specs.Paper.{fitPaper, unfoldPaper};
 

@@ -2,6 +2,7 @@ pub mod Claims
 pub mod Marks
 pub mod Extremes
 pub mod Slope
+pub mod Differences
 pub mod Bound
 pub mod Normal
 pub mod Tests

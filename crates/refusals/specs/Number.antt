@@ -1,7 +1,8 @@
 -- The number of each refusal, as document 01's table of answer numbers lists it. An answer that is no refusal has the number 0.
 use Prim.Native.Nat.{ℕ}
 use Rattle.refusals.specs.declared.Refusal.{Refusal}
-use Rattle.refusals.specs.declared.Refusal.the-variants.{UnknownCalendar, YearOutOfRange, NoSuchMonth, NoSuchDay, DayOutOfRange, CodeOutOfLimits, NoLine, MalformedFrame, WrongDay, LineOutOfLimits, BufferTooShort}
+use Rattle.refusals.specs.declared.Refusal.the-variants.{UnknownCalendar, YearOutOfRange, NoSuchMonth, NoSuchDay, DayOutOfRange}
+use Rattle.refusals.specs.declared.Refusal.the-variants.{CodeOutOfLimits, NoLine, MalformedFrame, WrongDay, LineOutOfLimits, BufferTooShort}
 
 abbrev pub numberOf : Refusal → ℕ
 numberOf UnknownCalendar = 1

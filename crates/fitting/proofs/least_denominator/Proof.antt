@@ -1,12 +1,11 @@
--- `fitting::least_denominator` meets its contract: at the head of the outer loop the denominators so far have failed (`Tried`), at the head of the inner one the
--- marks so far allow the offsets from `low` to `high` (`Tested`).
-use mathlib.Core.Path.{sym, _∙_, subst₂}
+-- `fitting::least_denominator` meets its contract: at the head of the outer loop the denominators so far have failed (`Tried`), at the head of the inner one
+-- the marks so far allow the offsets from `low` to `high` (`Tested`).
+use mathlib.Core.Path.{_≡_, _∙_}
 use mathlib.Core.Logic.{⊎-elim}
 use mathlib.Core.List.{List}
-use Prim.Native.Nat.{ℕ, _<_, _-_, _+_}
+use Prim.Native.Nat.{ℕ, _≤_, _<_, _-_, _+_, _*_, min, max}
 use native.Mathlib.Omega.{arith}
 use lib.ListN.{length, getD}
-use Rattle.lines.specs.Fit.{line}
 use Rattle.fitting.proofs.Search.{Tried, Tested, Small, none-tried, begun, hit, next, fails-above, fails-below, small, slope-small, miss}
 use Rattle.fitting.proofs.least_denominator.Statement.{statement}
 use Rattle.fitting.proofs.least_denominator.Tie as tie
@@ -24,11 +23,21 @@ abbrev μ-denominators : tie.MeasureT-denominators
 μ-denominators code n tried₀ a₀ low₀ tried a low = n - tried
 
 denominators-holds : tie.Need-denominators-holds Inv-loop μ-loop Inv-denominators μ-denominators
-denominators-holds c = none-tried _
+denominators-holds c = none-tried _ (omega arith) (omega arith)
 
 -- a place in a turn of the outer loop: a denominator is left
-untried : (c : tie.Else1 Inv-loop μ-loop Inv-denominators μ-denominators) → c .before .denominators .tried < length (c .before .before .before .args .code .now)
+untried : (c : tie.Else1 Inv-loop μ-loop Inv-denominators μ-denominators)
+    → c .before .denominators .tried < length (c .before .before .before .args .code .now)
 untried c = omega (arith, c .if1 .left, c .before .denominators .inv .few)
+
+-- what `raised` and `lowered` give, at numbers that are those of the band
+raised-to : {r low level reach low′ level′ reach′ : ℕ} → r ≡ max low (level - reach) → low ≡ low′ → level ≡ level′ → reach ≡ reach′
+    → r ≡ max low′ (level′ - reach′)
+raised-to e p q s = e ∙ (λ i. max (p i) (q i - s i))
+
+lowered-to : {r high top reach high′ top′ reach′ : ℕ} → r ≡ min high (top - reach) → high ≡ high′ → top ≡ top′ → reach ≡ reach′
+    → r ≡ min high′ (top′ - reach′)
+lowered-to e p q s = e ∙ (λ i. min (p i) (q i - s i))
 
 fewer : {n k : ℕ} → k < n → n - (k + 1) < n - k
 fewer h = omega arith
@@ -53,8 +62,17 @@ module _ (c : Place) where
   more : k < length code
   more = omega (arith, c .before .if2 .left, c .before .before .loop .inv .so-far)
 
-  sizes : Small b (c .before .before .loop .low) (c .before .before .loop .high) (c .before .before .loop .y + getD code k 0) (c .before .before .loop .reach + a)
+  sizes : let l = c .before .before .loop in Small b (l .low) (l .high) (l .y + getD code k 0) (l .reach + a)
   sizes = small code (c .before .before .loop .inv) more (c .before .before .before .before .before .before .before .pre)
+
+-- past both tests the mark leaves some offsets
+inside : (c : tie.Else4 Inv-loop μ-loop Inv-denominators μ-denominators)
+    → let d = c .before .before in
+    let l = d .before .before .loop in
+    let level = b d * (l .y + getD (code d) (k d) 0) in
+    let reach = l .reach + a d in
+    (reach + l .low ≤ level + b d - 1) × (level ≤ reach + l .high)
+inside c = (omega arith, omega arith)
 
 mul-a : tie.Need-mul-a Inv-loop μ-loop Inv-denominators μ-denominators
 mul-a c = omega arith
@@ -72,7 +90,7 @@ sub-high : tie.Need-sub-high Inv-loop μ-loop Inv-denominators μ-denominators
 sub-high c = omega arith
 
 loop-holds : tie.Need-loop-holds Inv-loop μ-loop Inv-denominators μ-denominators
-loop-holds c = begun _ (c .before .before .denominators .inv) (untried (c .before))
+loop-holds c = begun _ (c .before .before .denominators .inv) (untried (c .before)) (omega arith) (omega arith)
 
 mul-y : tie.Need-mul-y Inv-loop μ-loop Inv-denominators μ-denominators
 mul-y c = omega arith
@@ -105,7 +123,7 @@ denominators-less : tie.Need-denominators-less Inv-loop μ-loop Inv-denominators
 denominators-less c = omega arith
 
 denominators-again : tie.Need-denominators-again Inv-loop μ-loop Inv-denominators μ-denominators
-denominators-again c = fails-above _ (c .before .before .before .loop .inv) (more (c .before)) (c .if3 .taken)
+denominators-again c = fails-above _ (c .before .before .before .loop .inv) (more (c .before)) (omega arith)
 
 add-if4 : tie.Need-add-if4 Inv-loop μ-loop Inv-denominators μ-denominators
 add-if4 c = omega (arith, sizes (c .before))
@@ -115,7 +133,7 @@ denominators-less-2 c = omega arith
 
 denominators-again-2 :
     tie.Need-denominators-again-2 Inv-loop μ-loop Inv-denominators μ-denominators
-denominators-again-2 c = fails-below _ (c .before .before .before .before .loop .inv) (more (c .before .before)) (c .if4 .taken)
+denominators-again-2 c = fails-below _ (c .before .before .before .before .loop .inv) (more (c .before .before)) (omega arith)
 
 raised-requires : tie.Need-raised-requires Inv-loop μ-loop Inv-denominators μ-denominators
 raised-requires c κs = omega (arith, sizes (c .before .before))
@@ -129,20 +147,21 @@ loop-less c = fewer (more (c .before .before .before .before))
 loop-again : tie.Need-loop-again Inv-loop μ-loop Inv-denominators μ-denominators
 loop-again c =
     let d = c .before .before .before .before in
-    subst₂ (λ (l h : ℕ). Tested (code d) (b d) (a d) (k d + 1) l h (d .before .before .loop .y + getD (code d) (k d) 0) (d .before .before .loop .reach + a d))
-    (sym (c .before .raised .ensures)) (sym (c .lowered .ensures))
-    (next (code d) (d .before .before .loop .inv) (more d) (c .before .before .before .if3 .left) (c .before .before .if4 .left))
+    let h = inside (c .before .before) in
+    next (code d) (d .before .before .loop .inv) (more d) (h .0) (h .1) _ _
+    (raised-to (c .before .raised .ensures) (omega arith) (omega arith) (omega arith))
+    (lowered-to (c .lowered .ensures) (omega arith) (omega arith) (omega arith))
 
 returns : tie.Need-returns Inv-loop μ-loop Inv-denominators μ-denominators
 returns c =
-    ⊎-elim (λ w. sym (miss _ (c .before .before .before .before .pre) (c .before .before .denominators .inv) (w .0 .taken)))
+    ⊎-elim (λ w. miss _ (c .before .before .before .before .pre) (c .before .before .denominators .inv) (omega arith) (omega arith))
     (λ w. absurd (omega (arith, c .if5 .taken, w .7)))
     (c .before .if1 .came)
 
 returns-2 : tie.Need-returns-2 Inv-loop μ-loop Inv-denominators μ-denominators
 returns-2 c =
-    ⊎-elim (λ w. absurd (c .if5 .left (w .4)))
-    (λ w. (λ i. line (w .5 i) (w .7 i) (w .6 i)) ∙ sym (hit _ (w .2 .inv) (c .before .before .before .before .pre) (w .3 .taken)))
+    ⊎-elim (λ w. absurd (omega (arith, c .if5 .left (w .4))))
+    (λ w. hit _ (w .2 .inv) (c .before .before .before .before .pre) (omega (arith, w .3)) (omega (arith, w .5)) (omega (arith, w .7)) (omega (arith, w .6)))
     (c .before .if1 .came)
 
 pub least-denominator-spec : {M : Type 1} → statement M
