@@ -14,12 +14,14 @@ pub struct Got {
     pub failed: bool,
 }
 
-// Says what the program cannot do to which file. Answers false: not all is done.
-pub fn fail(program: &[u8], what: &[u8], file: &[u8]) -> bool
+// Says which action on which file failed. Answers false: not all is done.
+pub fn fail(program: &[u8], action: &[u8], file: &[u8]) -> bool
     ensures { λ r. ⌜ r ≡ false ⌝ }
 {
     io::write_all(STDERR_FILENO, program);
-    io::write_all(STDERR_FILENO, what);
+    io::write_all(STDERR_FILENO, b": cannot ");
+    io::write_all(STDERR_FILENO, action);
+    io::write_all(STDERR_FILENO, b" ");
     io::write_all(STDERR_FILENO, file);
     io::write_all(STDERR_FILENO, b"; the output is incomplete\n");
     false
@@ -32,7 +34,7 @@ pub fn read(program: &[u8], input: &mut [u8]) -> Got
 {
     let got = libc::read(STDIN_FILENO, input);
     if got < 0 {
-        fail(program, b": cannot read ", b"standard input");
+        fail(program, b"read", b"standard input");
         return Got {
             count: 0,
             failed: true,
@@ -54,5 +56,5 @@ pub fn write(program: &[u8], bytes: &[u8]) -> bool
     if io::write_all(STDOUT_FILENO, bytes) {
         return true;
     }
-    fail(program, b": cannot write ", b"standard output")
+    fail(program, b"write", b"standard output")
 }

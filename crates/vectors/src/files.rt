@@ -64,7 +64,7 @@ fn compare_file(good: &mut bool, name: &[u8], table: Table, before: Tally) -> Ta
             tally::sum(before, found)
         }
         Compared::NotRead => {
-            *good = stdio::fail(b"vectors", b": cannot read ", name);
+            *good = stdio::fail(b"vectors", b"read", name);
             before
         }
     }
