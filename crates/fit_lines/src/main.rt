@@ -9,7 +9,6 @@ mod answering;
 mod reading;
 mod writing;
 
-use libc::STDIN_FILENO;
 use reading::Scan;
 use writing::Sink;
 
@@ -51,13 +50,26 @@ fn take_piece(start: State, piece: &[u8], numbers: &mut [u64], out: &mut [u8]) -
     state
 }
 
-// Reads once, and writes the answers to what came. A reading that fails ends the input.
+// Without the unfinished line.
+fn line_dropped(state: State) -> State {
+    let scan = reading::start();
+    let sink = state.sink;
+    State { scan, sink }
+}
+
+// Reads once, and writes the answers to what came. Where the read fails the unfinished line is not answered: how it goes on is not known.
 fn take_turn(state: State, input: &mut [u8], numbers: &mut [u64], out: &mut [u8]) -> Turn {
-    let got = libc::read(STDIN_FILENO, input);
-    if got <= 0 {
+    let got = stdio::read(b"fit_lines", input);
+    let n = got.count;
+    if got.failed {
+        return Turn {
+            state: line_dropped(state),
+            more: false,
+        };
+    }
+    if n == 0 {
         return Turn { state, more: false };
     }
-    let n = io::count(got, input);
     let after = take_piece(state, &input[..n], numbers, out);
     let scan = after.scan;
     let waiting = after.sink;

@@ -1,6 +1,5 @@
 // Runs document 01's example of a sheet through `verdicts` in pieces of each length, with small and large output buffers. Each run writes
 // the example's answers; an empty input writes nothing.
-use libc::STDOUT_FILENO;
 use verdicts::Unfinished;
 ghost use Prim.Native.Nat.{_≤_};
 
@@ -10,8 +9,12 @@ fn least(a: usize, b: usize) -> usize
     if a < b { a } else { b }
 }
 
-// The whole input in pieces of `size` bytes, or of fewer where the output has no room for their answers.
-fn run(input: &[u8], size: usize, output: &mut [u8]) {
+fn write(bytes: &[u8]) -> bool {
+    stdio::write(b"piecewise", bytes)
+}
+
+// The whole input in pieces of `size` bytes, or of fewer where the output has no room for their answers. Answers whether all was written.
+fn run(input: &[u8], size: usize, output: &mut [u8]) -> bool {
     let mut state = Unfinished::new();
     let mut at = 0;
     while at < input.len() {
@@ -21,9 +24,11 @@ fn run(input: &[u8], size: usize, output: &mut [u8]) {
         let written = done.written;
         let consumed = done.consumed;
         let next = done.state;
-        io::write_all(STDOUT_FILENO, &output[..written]);
+        if !write(&output[..written]) {
+            return false;
+        }
         if consumed == 0 {
-            return;
+            return true;
         }
         state = next;
         at += consumed;
@@ -31,7 +36,7 @@ fn run(input: &[u8], size: usize, output: &mut [u8]) {
     let last = verdicts::finish(state);
     let bytes = last.bytes;
     let count = last.count;
-    io::write_all(STDOUT_FILENO, &bytes[..count]);
+    write(&bytes[..count])
 }
 
 fn main() {
@@ -40,9 +45,15 @@ fn main() {
     let mut middle = [0u8; 16];
     let mut large = [0u8; 128];
     for size in 1..40 {
-        run(example, size, &mut small);
-        run(example, size, &mut middle);
-        run(example, size, &mut large);
+        if !run(example, size, &mut small) {
+            return;
+        }
+        if !run(example, size, &mut middle) {
+            return;
+        }
+        if !run(example, size, &mut large) {
+            return;
+        }
     }
     run(b"", 1, &mut large);
 }

@@ -1,7 +1,5 @@
 // The sheet program: frames from standard input, one a line, and their answer numbers to standard output. All that matters is in
 // `verdicts`; here is only reading and writing.
-use libc::STDIN_FILENO;
-use libc::STDOUT_FILENO;
 use verdicts::Progress;
 use verdicts::Unfinished;
 ghost use Prim.Native.Nat.{_*_, _≤_};
@@ -27,21 +25,21 @@ struct Turn {
 fn read_some(state: Unfinished, input: &mut [u8], output: &mut [u8]) -> Turn
     requires { ⌜ length (now input) * 3 ≤ length (now output) ⌝ }
 {
-    let got = libc::read(STDIN_FILENO, input);
-    if got < 0 {
+    let got = stdio::read(b"sheet", input);
+    let n = got.count;
+    if got.failed {
         return Turn {
             state: Unfinished::new(),
             more: false,
         };
     }
-    if got == 0 {
+    if n == 0 {
         return Turn { state, more: false };
     }
-    let n = io::count(got, input);
     let done = judge(state, &input[..n], output);
     let next = done.state;
     let written = done.written;
-    if io::write_all(STDOUT_FILENO, &output[..written]) {
+    if stdio::write(b"sheet", &output[..written]) {
         return Turn {
             state: next,
             more: true,
@@ -78,5 +76,5 @@ fn main() {
     let last = verdicts::finish(read_all(&mut input, &mut output));
     let bytes = last.bytes;
     let count = last.count;
-    io::write_all(STDOUT_FILENO, &bytes[..count]);
+    stdio::write(b"sheet", &bytes[..count]);
 }

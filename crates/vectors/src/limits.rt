@@ -2,98 +2,98 @@
 use crate::output::put;
 use crate::show;
 
-pub(crate) fn show_all() {
-    put(b"\nLimits: date to day\n");
-    show_calendars();
-    show_years();
-    show_months();
-    show_days();
-    put(b"\nLimits: day to date\n");
-    show_day_numbers();
-    put(b"\nLimits: length of a position\n");
-    show_positions();
-    put(b"\nLimits: Easter\n");
-    show_easters();
+pub(crate) fn show_all(good: &mut bool) {
+    put(good, b"\nLimits: date to day\n");
+    show_calendars(good);
+    show_years(good);
+    show_months(good);
+    show_days(good);
+    put(good, b"\nLimits: day to date\n");
+    show_day_numbers(good);
+    put(good, b"\nLimits: length of a position\n");
+    show_positions(good);
+    put(good, b"\nLimits: Easter\n");
+    show_easters(good);
 }
 
-fn show_calendars() {
-    show::day_of(0, 1, 1, 1);
-    show::day_of(16, 1, 1, 1);
-    show::day_of(17, 1, 1, 1);
-    show::day_of(19, 1, 1, 1);
-    show::day_of(u64::MAX, 30000, 0, 0);
+fn show_calendars(good: &mut bool) {
+    show::day_of(good, 0, 1, 1, 1);
+    show::day_of(good, 16, 1, 1, 1);
+    show::day_of(good, 17, 1, 1, 1);
+    show::day_of(good, 19, 1, 1, 1);
+    show::day_of(good, u64::MAX, 30000, 0, 0);
 }
 
-fn show_years() {
-    show::day_of(4, 0, 1, 1);
-    show::day_of(4, 1, 1, 1);
-    show::day_of(10, -4713, 12, 31);
-    show::day_of(10, i64::MIN, 1, 1);
-    show::day_of(10, i64::MAX, 1, 1);
-    show::day_of(11, 20000, 1, 1);
-    show::day_of(11, 20001, 0, 0);
+fn show_years(good: &mut bool) {
+    show::day_of(good, 4, 0, 1, 1);
+    show::day_of(good, 4, 1, 1, 1);
+    show::day_of(good, 10, -4713, 12, 31);
+    show::day_of(good, 10, i64::MIN, 1, 1);
+    show::day_of(good, 10, i64::MAX, 1, 1);
+    show::day_of(good, 11, 20000, 1, 1);
+    show::day_of(good, 11, 20001, 0, 0);
 }
 
-fn show_months() {
-    show::day_of(11, 2000, 0, 1);
-    show::day_of(11, 2000, 12, 1);
-    show::day_of(11, 2000, 13, 0);
-    show::day_of(11, 2000, u64::MAX, 1);
-    show::day_of(18, 5784, 7, 1);
-    show::day_of(18, 5785, 7, 1);
-    show::day_of(18, 5785, 13, 1);
-    show::day_of(18, 5785, 14, 1);
+fn show_months(good: &mut bool) {
+    show::day_of(good, 11, 2000, 0, 1);
+    show::day_of(good, 11, 2000, 12, 1);
+    show::day_of(good, 11, 2000, 13, 0);
+    show::day_of(good, 11, 2000, u64::MAX, 1);
+    show::day_of(good, 18, 5784, 7, 1);
+    show::day_of(good, 18, 5785, 7, 1);
+    show::day_of(good, 18, 5785, 13, 1);
+    show::day_of(good, 18, 5785, 14, 1);
 }
 
-fn show_days() {
-    show::day_of(11, 2000, 1, 0);
-    show::day_of(11, 2000, 1, 31);
-    show::day_of(11, 2000, 1, 32);
-    show::day_of(11, 2000, 1, u64::MAX);
-    show::day_of(11, 20000, 2, 30);
-    show::day_of(11, 20000, 2, 29);
+fn show_days(good: &mut bool) {
+    show::day_of(good, 11, 2000, 1, 0);
+    show::day_of(good, 11, 2000, 1, 31);
+    show::day_of(good, 11, 2000, 1, 32);
+    show::day_of(good, 11, 2000, 1, u64::MAX);
+    show::day_of(good, 11, 20000, 2, 30);
+    show::day_of(good, 11, 20000, 2, 29);
 }
 
-fn show_day_numbers() {
-    show::date_of(0, 2000000);
-    show::date_of(17, 5373485);
-    show::date_of(u64::MAX, 2000000);
-    show::date_of(10, 0);
-    show::date_of(11, 37);
-    show::date_of(11, 38);
-    show::date_of(18, 347997);
-    show::date_of(18, 347998);
-    show::date_of(11, 5373484);
-    show::date_of(11, 5373485);
-    show::date_of(11, u64::MAX);
+fn show_day_numbers(good: &mut bool) {
+    show::date_of(good, 0, 2000000);
+    show::date_of(good, 17, 5373485);
+    show::date_of(good, u64::MAX, 2000000);
+    show::date_of(good, 10, 0);
+    show::date_of(good, 11, 37);
+    show::date_of(good, 11, 38);
+    show::date_of(good, 18, 347997);
+    show::date_of(good, 18, 347998);
+    show::date_of(good, 11, 5373484);
+    show::date_of(good, 11, 5373485);
+    show::date_of(good, 11, u64::MAX);
 }
 
-fn show_positions() {
-    show::length_of(16, 20001, 0);
-    show::length_of(11, -4713, 1);
-    show::length_of(11, 20001, 0);
-    show::length_of(11, 20000, 2);
-    show::length_of(11, 1900, 2);
-    show::length_of(11, 2000, 0);
-    show::length_of(11, 2000, 13);
-    show::length_of(18, 5784, 7);
-    show::length_of(18, 5785, 7);
-    show::length_of(18, 5785, 13);
-    show::length_of(18, 5785, 14);
+fn show_positions(good: &mut bool) {
+    show::length_of(good, 16, 20001, 0);
+    show::length_of(good, 11, -4713, 1);
+    show::length_of(good, 11, 20001, 0);
+    show::length_of(good, 11, 20000, 2);
+    show::length_of(good, 11, 1900, 2);
+    show::length_of(good, 11, 2000, 0);
+    show::length_of(good, 11, 2000, 13);
+    show::length_of(good, 18, 5784, 7);
+    show::length_of(good, 18, 5785, 7);
+    show::length_of(good, 18, 5785, 13);
+    show::length_of(good, 18, 5785, 14);
 }
 
-fn show_easters() {
-    show::easter_of(10, i64::MIN);
-    show::easter_of(10, 0);
-    show::easter_of(10, 1);
-    show::easter_of(10, 9999);
-    show::easter_of(10, 10000);
-    show::easter_of(11, 1582);
-    show::easter_of(11, 1583);
-    show::easter_of(11, 9999);
-    show::easter_of(11, 10000);
-    show::easter_of(11, i64::MAX);
-    show::easter_of(9, 2000);
-    show::easter_of(12, 0);
-    show::easter_of(u64::MAX, 2000);
+fn show_easters(good: &mut bool) {
+    show::easter_of(good, 10, i64::MIN);
+    show::easter_of(good, 10, 0);
+    show::easter_of(good, 10, 1);
+    show::easter_of(good, 10, 9999);
+    show::easter_of(good, 10, 10000);
+    show::easter_of(good, 11, 1582);
+    show::easter_of(good, 11, 1583);
+    show::easter_of(good, 11, 9999);
+    show::easter_of(good, 11, 10000);
+    show::easter_of(good, 11, i64::MAX);
+    show::easter_of(good, 9, 2000);
+    show::easter_of(good, 12, 0);
+    show::easter_of(good, u64::MAX, 2000);
 }

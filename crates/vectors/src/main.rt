@@ -13,7 +13,8 @@ mod tables;
 mod tally;
 
 fn main() {
-    files::compare_all();
-    examples::show_all();
-    limits::show_all();
+    let mut good = true;
+    files::compare_all(&mut good);
+    examples::show_all(&mut good);
+    limits::show_all(&mut good);
 }

@@ -1,20 +1,24 @@
-// Writes names, numbers and answers to standard output.
-use libc::STDOUT_FILENO;
+// Writes names, numbers and answers to standard output, for as long as all is good: every table was read and every write succeeded.
+// Nothing follows a failure, so that what is written is a beginning of the whole.
 use refusals::Refusal;
 
-pub(crate) fn put(text: &[u8]) {
-    io::write_all(STDOUT_FILENO, text);
-}
-
-pub(crate) fn put_number(n: u64) {
-    io::print_decimal(STDOUT_FILENO, n);
-}
-
-pub(crate) fn put_year(year: i64) {
-    if year < 0 {
-        put(b"-");
+pub(crate) fn put(good: &mut bool, text: &[u8]) {
+    if *good {
+        *good = stdio::write(b"vectors", text);
     }
-    put_number(magnitude(year));
+}
+
+pub(crate) fn put_number(good: &mut bool, n: u64) {
+    let mut text = [0u8; 20];
+    let k = io::decimal(n, &mut text);
+    put(good, &text[..k]);
+}
+
+pub(crate) fn put_year(good: &mut bool, year: i64) {
+    if year < 0 {
+        put(good, b"-");
+    }
+    put_number(good, magnitude(year));
 }
 
 // The distance from 0. Of the least i64 it is no i64.
@@ -26,9 +30,9 @@ fn magnitude(year: i64) -> u64 {
     year as u64
 }
 
-pub(crate) fn put_refusal(why: Refusal) {
-    put(b"refused ");
-    put_number(wide(refusals::number(why)));
+pub(crate) fn put_refusal(good: &mut bool, why: Refusal) {
+    put(good, b"refused ");
+    put_number(good, wide(refusals::number(why)));
 }
 
 pub(crate) fn wide(x: u8) -> u64 {
@@ -36,16 +40,16 @@ pub(crate) fn wide(x: u8) -> u64 {
 }
 
 // The calendar's name, or its number where it has none here.
-pub(crate) fn put_calendar(calendar: u64) {
+pub(crate) fn put_calendar(good: &mut bool, calendar: u64) {
     match calendar {
-        4 => put(b"Persian"),
-        10 => put(b"Julian"),
-        11 => put(b"Gregorian"),
-        13 => put(b"Islamic B"),
-        18 => put(b"Hebrew"),
+        4 => put(good, b"Persian"),
+        10 => put(good, b"Julian"),
+        11 => put(good, b"Gregorian"),
+        13 => put(good, b"Islamic B"),
+        18 => put(good, b"Hebrew"),
         _ => {
-            put(b"calendar ");
-            put_number(calendar);
+            put(good, b"calendar ");
+            put_number(good, calendar);
         }
     }
 }

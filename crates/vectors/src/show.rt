@@ -11,72 +11,72 @@ use calendars::Length;
 use easter::EasterDate;
 use easter::MonthDay;
 
-fn put_date(date: Date) {
-    put_year(date.year);
-    put(b"/");
-    put_number(date.month);
-    put(b"/");
-    put_number(date.day);
+fn put_date(good: &mut bool, date: Date) {
+    put_year(good, date.year);
+    put(good, b"/");
+    put_number(good, date.month);
+    put(good, b"/");
+    put_number(good, date.day);
 }
 
-pub(crate) fn day_of(calendar: u64, year: i64, month: u64, day: u64) {
+pub(crate) fn day_of(good: &mut bool, calendar: u64, year: i64, month: u64, day: u64) {
     let date = Date { year, month, day };
-    put_calendar(calendar);
-    put(b" ");
-    put_date(date);
-    put(b": ");
+    put_calendar(good, calendar);
+    put(good, b" ");
+    put_date(good, date);
+    put(good, b": ");
     match calendars::date_to_day(calendar, date) {
-        Day::Number(n) => put_number(n),
-        Day::Refused(why) => put_refusal(why),
+        Day::Number(n) => put_number(good, n),
+        Day::Refused(why) => put_refusal(good, why),
     }
-    put(b"\n");
+    put(good, b"\n");
 }
 
-pub(crate) fn date_of(calendar: u64, day: u64) {
-    put_calendar(calendar);
-    put(b" day ");
-    put_number(day);
-    put(b": ");
+pub(crate) fn date_of(good: &mut bool, calendar: u64, day: u64) {
+    put_calendar(good, calendar);
+    put(good, b" day ");
+    put_number(good, day);
+    put(good, b": ");
     match calendars::day_to_date(calendar, day) {
-        Dated::On(date) => put_date(date),
-        Dated::Refused(why) => put_refusal(why),
+        Dated::On(date) => put_date(good, date),
+        Dated::Refused(why) => put_refusal(good, why),
     }
-    put(b"\n");
+    put(good, b"\n");
 }
 
-pub(crate) fn length_of(calendar: u64, year: i64, position: u64) {
-    put_calendar(calendar);
-    put(b" ");
-    put_year(year);
-    put(b" position ");
-    put_number(position);
-    put(b": ");
+pub(crate) fn length_of(good: &mut bool, calendar: u64, year: i64, position: u64) {
+    put_calendar(good, calendar);
+    put(good, b" ");
+    put_year(good, year);
+    put(good, b" position ");
+    put_number(good, position);
+    put(good, b": ");
     match calendars::position_length(calendar, year, position) {
-        Length::Days(n) => put_number(n),
-        Length::Refused(why) => put_refusal(why),
+        Length::Days(n) => put_number(good, n),
+        Length::Refused(why) => put_refusal(good, why),
     }
-    put(b"\n");
+    put(good, b"\n");
 }
 
 // Easter is in March or in April.
-fn put_easter(date: MonthDay) {
-    put_number(date.day);
+fn put_easter(good: &mut bool, date: MonthDay) {
+    put_number(good, date.day);
     if date.month == 3 {
-        put(b" March");
+        put(good, b" March");
     } else {
-        put(b" April");
+        put(good, b" April");
     }
 }
 
-pub(crate) fn easter_of(calendar: u64, year: i64) {
-    put(b"Easter ");
-    put_year(year);
-    put(b" ");
-    put_calendar(calendar);
-    put(b": ");
+pub(crate) fn easter_of(good: &mut bool, calendar: u64, year: i64) {
+    put(good, b"Easter ");
+    put_year(good, year);
+    put(good, b" ");
+    put_calendar(good, calendar);
+    put(good, b": ");
     match easter::easter(calendar, year) {
-        EasterDate::On(date) => put_easter(date),
-        EasterDate::Refused(why) => put_refusal(why),
+        EasterDate::On(date) => put_easter(good, date),
+        EasterDate::Refused(why) => put_refusal(good, why),
     }
-    put(b"\n");
+    put(good, b"\n");
 }

@@ -39,11 +39,23 @@ fn compare_row(table: Table, line: Line) -> Finding {
     }
 }
 
-// The line that is being read, the counts of the rows before it, and whether the file has ended.
+// The line that is being read, and the counts of the rows before it.
 struct Scan {
     line: Line,
     tally: Tally,
-    is_ended: bool,
+}
+
+// What one reading leaves, whether there is to be another, and whether it failed.
+struct Part {
+    scan: Scan,
+    more: bool,
+    failed: bool,
+}
+
+// The counts of a whole table, or that it cannot be read to its end.
+pub enum Compared {
+    Rows(Tally),
+    NotRead,
 }
 
 fn end_line(table: Table, scan: Scan) -> Scan {
@@ -54,12 +66,10 @@ fn end_line(table: Table, scan: Scan) -> Scan {
         Place::Comment => Scan {
             line: rows::empty(),
             tally: before,
-            is_ended: scan.is_ended,
         },
         _ => Scan {
             line: rows::empty(),
             tally: tally::with_row(before, compare_row(table, line)),
-            is_ended: scan.is_ended,
         },
     }
 }
@@ -72,7 +82,6 @@ fn take_byte(table: Table, scan: Scan, byte: u8) -> Scan {
     Scan {
         line: rows::take_byte(scan.line, byte),
         tally: before,
-        is_ended: scan.is_ended,
     }
 }
 
@@ -84,28 +93,46 @@ fn take_bytes(table: Table, scan: Scan, bytes: &[u8]) -> Scan {
     next
 }
 
-fn read_part(file: i32, table: Table, scan: Scan) -> Scan {
+fn read_part(file: i32, table: Table, scan: Scan) -> Part {
     let mut buffer = io::buffer();
-    let n = io::read_full(file, &mut buffer);
-    let mut next = take_bytes(table, scan, &buffer[..n]);
-    next.is_ended = n == 0;
-    next
+    let got = libc::read(file, &mut buffer);
+    let n = io::count(got, &buffer);
+    let next = take_bytes(table, scan, &buffer[..n]);
+    Part {
+        scan: next,
+        more: got > 0,
+        failed: got < 0,
+    }
 }
 
-// The counts of a whole table. A proved loop has to end: 1,000,000 parts are more than any table has.
-pub(crate) fn compare(file: i32, table: Table) -> Tally {
+// A proved loop has to end: 1,000,000 parts are more than any table has.
+fn compare_rows(file: i32, table: Table) -> Compared {
     let mut scan = Scan {
         line: rows::empty(),
-        tally: tally::none(),
-        is_ended: false,
+        tally: tally::of_file(),
     };
     for _ in 0..1000000u64 {
-        scan = read_part(file, table, scan);
-        if scan.is_ended {
-            return ended(table, scan);
+        let part = read_part(file, table, scan);
+        let next = part.scan;
+        scan = next;
+        if part.failed {
+            return Compared::NotRead;
+        }
+        if !part.more {
+            return Compared::Rows(ended(table, scan));
         }
     }
-    ended(table, scan)
+    Compared::NotRead
+}
+
+pub(crate) fn compare(name: &[u8], table: Table) -> Compared {
+    let file = os::open_read(name);
+    if file < 0 {
+        return Compared::NotRead;
+    }
+    let found = compare_rows(file, table);
+    libc::close(file);
+    found
 }
 
 // A last line without a newline counts if it has bytes.

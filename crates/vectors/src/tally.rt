@@ -24,6 +24,13 @@ pub(crate) fn none() -> Tally {
     }
 }
 
+// The counts of a file of which no row is read yet.
+pub(crate) fn of_file() -> Tally {
+    let mut one = none();
+    one.files = 1;
+    one
+}
+
 pub(crate) fn sum(a: Tally, b: Tally) -> Tally {
     Tally {
         files: wrapping_add_u64(a.files, b.files),

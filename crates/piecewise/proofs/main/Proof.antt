@@ -21,17 +21,26 @@ slice-aggregate-run c = search needs
 run-requires : tie.Need-run-requires Inv-loop μ-loop
 run-requires c κs = search needs
 
+returns : tie.Need-returns Inv-loop μ-loop
+returns c = search needs
+
 slice-aggregate-run-2 : tie.Need-slice-aggregate-run-2 Inv-loop μ-loop
 slice-aggregate-run-2 c = search needs
 
 run-requires-2 : tie.Need-run-requires-2 Inv-loop μ-loop
 run-requires-2 c κs = search needs
 
+returns-2 : tie.Need-returns-2 Inv-loop μ-loop
+returns-2 c = search needs
+
 slice-aggregate-run-3 : tie.Need-slice-aggregate-run-3 Inv-loop μ-loop
 slice-aggregate-run-3 c = search needs
 
 run-requires-3 : tie.Need-run-requires-3 Inv-loop μ-loop
 run-requires-3 c κs = search needs
+
+returns-3 : tie.Need-returns-3 Inv-loop μ-loop
+returns-3 c = search needs
 
 add-size : tie.Need-add-size Inv-loop μ-loop
 add-size c = search needs
@@ -51,8 +60,8 @@ slice-aggregate-run-5 c = search needs
 run-requires-4 : tie.Need-run-requires-4 Inv-loop μ-loop
 run-requires-4 c κs = search needs
 
-returns : tie.Need-returns Inv-loop μ-loop
-returns c = search needs
+returns-4 : tie.Need-returns-4 Inv-loop μ-loop
+returns-4 c = search needs
 
 pub main-spec : {M : Type 1} → statement M
 main-spec =
@@ -63,14 +72,17 @@ main-spec =
     loop-holds
     slice-aggregate-run
     run-requires
+    returns
     slice-aggregate-run-2
     run-requires-2
+    returns-2
     slice-aggregate-run-3
     run-requires-3
+    returns-3
     add-size
     loop-less
     loop-again
     slice-aggregate-run-4
     slice-aggregate-run-5
     run-requires-4
-    returns)
+    returns-4)

@@ -42,14 +42,14 @@ part-judge-piece-end c = search needs
 judge-piece-requires : tie.Need-judge-piece-requires Inv-loop μ-loop
 judge-piece-requires c κs = search needs
 
-slice-reshare-prefix-write-all : tie.Need-slice-reshare-prefix-write-all Inv-loop μ-loop
-slice-reshare-prefix-write-all c = written-within (c .before .before .before .judge-piece .ensures)
+slice-reshare-prefix-write : tie.Need-slice-reshare-prefix-write Inv-loop μ-loop
+slice-reshare-prefix-write c = written-within (c .before .before .before .judge-piece .ensures)
 
-slice-aggregate-write-all : tie.Need-slice-aggregate-write-all Inv-loop μ-loop
-slice-aggregate-write-all c = sym (length-take-le _ _ (written-within (c .before .before .before .before .judge-piece .ensures)))
+slice-aggregate-write : tie.Need-slice-aggregate-write Inv-loop μ-loop
+slice-aggregate-write c = sym (length-take-le _ _ (written-within (c .before .before .before .before .judge-piece .ensures)))
 
-write-all-requires : tie.Need-write-all-requires Inv-loop μ-loop
-write-all-requires c κs = search needs
+write-requires : tie.Need-write-requires Inv-loop μ-loop
+write-requires c κs = search needs
 
 same-length : tie.Need-same-length Inv-loop μ-loop
 same-length c = search needs
@@ -57,11 +57,17 @@ same-length c = search needs
 returns : tie.Need-returns Inv-loop μ-loop
 returns c = search needs
 
+same-length-2 : tie.Need-same-length-2 Inv-loop μ-loop
+same-length-2 c = search needs
+
+returns-2 : tie.Need-returns-2 Inv-loop μ-loop
+returns-2 c = search needs
+
 -- no more is taken than is left
-taken-within : (c : tie.Else1 Inv-loop μ-loop) → let p = c .before .before .before .before .before .before in
+taken-within : (c : tie.Else2 Inv-loop μ-loop) → let p = c .before .before .before .before .before .before .before in
     p .judge-piece .result .consumed ≤ p .before .before .before .least .result
 taken-within c =
-    let p = c .before .before .before .before .before .before in
+    let p = c .before .before .before .before .before .before .before in
     let l = p .before .before .before in
     let a = l .before .before .before .before .before .before .args in
     let at = l .before .before .loop .at in
@@ -83,17 +89,17 @@ finish-requires c κs = search needs
 array-share-prefix-bytes : tie.Need-array-share-prefix-bytes Inv-loop μ-loop
 array-share-prefix-bytes c = finished-within _ _ (c .before .finish .ensures)
 
-slice-aggregate-write-all-2 : tie.Need-slice-aggregate-write-all-2 Inv-loop μ-loop
-slice-aggregate-write-all-2 c = sym (length-take-le _ _ (finished-within _ _ (c .before .before .finish .ensures)))
+slice-aggregate-write-2 : tie.Need-slice-aggregate-write-2 Inv-loop μ-loop
+slice-aggregate-write-2 c = sym (length-take-le _ _ (finished-within _ _ (c .before .before .finish .ensures)))
 
-write-all-requires-2 : tie.Need-write-all-requires-2 Inv-loop μ-loop
-write-all-requires-2 c κs = search needs
+write-requires-2 : tie.Need-write-requires-2 Inv-loop μ-loop
+write-requires-2 c κs = search needs
 
-same-length-2 : tie.Need-same-length-2 Inv-loop μ-loop
-same-length-2 c = search needs
+same-length-3 : tie.Need-same-length-3 Inv-loop μ-loop
+same-length-3 c = search needs
 
-returns-2 : tie.Need-returns-2 Inv-loop μ-loop
-returns-2 c = search needs
+returns-3 : tie.Need-returns-3 Inv-loop μ-loop
+returns-3 c = search needs
 
 pub run-spec : {M : Type 1} → statement M
 run-spec =
@@ -110,17 +116,19 @@ run-spec =
     part-judge-piece-start
     part-judge-piece-end
     judge-piece-requires
-    slice-reshare-prefix-write-all
-    slice-aggregate-write-all
-    write-all-requires
+    slice-reshare-prefix-write
+    slice-aggregate-write
+    write-requires
     same-length
     returns
+    same-length-2
+    returns-2
     add-at
     loop-less
     loop-again
     finish-requires
     array-share-prefix-bytes
-    slice-aggregate-write-all-2
-    write-all-requires-2
-    same-length-2
-    returns-2)
+    slice-aggregate-write-2
+    write-requires-2
+    same-length-3
+    returns-3)

@@ -18,14 +18,17 @@ read-all-requires c κs = search needs
 finish-requires : tie.Need-finish-requires
 finish-requires c κs = search needs
 
+slice-aggregate-write : tie.Need-slice-aggregate-write
+slice-aggregate-write c = search needs
+
 array-share-prefix-bytes : tie.Need-array-share-prefix-bytes
-array-share-prefix-bytes c = finished-within _ _ (c .before .finish .ensures)
+array-share-prefix-bytes c = finished-within _ _ (c .before .before .finish .ensures)
 
-slice-aggregate-write-all : tie.Need-slice-aggregate-write-all
-slice-aggregate-write-all c = sym (length-take-le _ _ (finished-within _ _ (c .before .before .finish .ensures)))
+slice-aggregate-write-2 : tie.Need-slice-aggregate-write-2
+slice-aggregate-write-2 c = sym (length-take-le _ _ (finished-within _ _ (c .before .before .before .finish .ensures)))
 
-write-all-requires : tie.Need-write-all-requires
-write-all-requires c κs = search needs
+write-requires : tie.Need-write-requires
+write-requires c κs = search needs
 
 returns : tie.Need-returns
 returns c = search needs
@@ -38,7 +41,8 @@ main-spec =
     slice-aggregate-read-all-2
     read-all-requires
     finish-requires
+    slice-aggregate-write
     array-share-prefix-bytes
-    slice-aggregate-write-all
-    write-all-requires
+    slice-aggregate-write-2
+    write-requires
     returns)

@@ -6,6 +6,9 @@ use borrow.Author.Needs.{needs}
 use Rattle.sheet.proofs.read_some.Statement.{statement}
 use Rattle.sheet.proofs.read_some.Tie as tie
 
+slice-aggregate-read : tie.Need-slice-aggregate-read
+slice-aggregate-read c = search needs
+
 read-requires : tie.Need-read-requires
 read-requires c κs = search needs
 
@@ -24,9 +27,6 @@ same-length-2 c = search needs
 returns-2 : tie.Need-returns-2
 returns-2 c = search needs
 
-count-requires : tie.Need-count-requires
-count-requires c κs = search needs
-
 slice-reshare-prefix-judge : tie.Need-slice-reshare-prefix-judge
 slice-reshare-prefix-judge c = search needs
 
@@ -36,14 +36,17 @@ slice-aggregate-judge c = search needs
 judge-requires : tie.Need-judge-requires
 judge-requires c κs = search needs
 
-slice-reshare-prefix-write-all : tie.Need-slice-reshare-prefix-write-all
-slice-reshare-prefix-write-all c = written-within (c .before .before .before .judge .ensures)
+slice-aggregate-write : tie.Need-slice-aggregate-write
+slice-aggregate-write c = search needs
 
-slice-aggregate-write-all : tie.Need-slice-aggregate-write-all
-slice-aggregate-write-all c = sym (length-take-le _ _ (written-within (c .before .before .before .before .judge .ensures)))
+slice-reshare-prefix-write : tie.Need-slice-reshare-prefix-write
+slice-reshare-prefix-write c = written-within (c .before .before .before .before .judge .ensures)
 
-write-all-requires : tie.Need-write-all-requires
-write-all-requires c κs = search needs
+slice-aggregate-write-2 : tie.Need-slice-aggregate-write-2
+slice-aggregate-write-2 c = sym (length-take-le _ _ (written-within (c .before .before .before .before .before .judge .ensures)))
+
+write-requires : tie.Need-write-requires
+write-requires c κs = search needs
 
 same-length-3 : tie.Need-same-length-3
 same-length-3 c = search needs
@@ -70,19 +73,20 @@ pub read-some-spec : {M : Type 1} → statement M
 read-some-spec =
     tie.close
     (tie.spec
+    slice-aggregate-read
     read-requires
     new-requires
     same-length
     returns
     same-length-2
     returns-2
-    count-requires
     slice-reshare-prefix-judge
     slice-aggregate-judge
     judge-requires
-    slice-reshare-prefix-write-all
-    slice-aggregate-write-all
-    write-all-requires
+    slice-aggregate-write
+    slice-reshare-prefix-write
+    slice-aggregate-write-2
+    write-requires
     same-length-3
     same-length-4
     returns-3

@@ -14,11 +14,14 @@ enum-told c = search needs
 returns : tie.Need-returns
 returns c = search needs
 
-slice-aggregate-write-all : tie.Need-slice-aggregate-write-all
-slice-aggregate-write-all c = sym (length-take-le _ _ (c .before .if1 .taken))
+slice-aggregate-write : tie.Need-slice-aggregate-write
+slice-aggregate-write c = search needs
 
-write-all-requires : tie.Need-write-all-requires
-write-all-requires c κs = search needs
+slice-aggregate-write-2 : tie.Need-slice-aggregate-write-2
+slice-aggregate-write-2 c = sym (length-take-le _ _ (c .before .before .if1 .taken))
+
+write-requires : tie.Need-write-requires
+write-requires c κs = search needs
 
 returns-2 : tie.Need-returns-2
 returns-2 c = search needs
@@ -36,8 +39,9 @@ flush-spec =
     enum-known-sink
     enum-told
     returns
-    slice-aggregate-write-all
-    write-all-requires
+    slice-aggregate-write
+    slice-aggregate-write-2
+    write-requires
     returns-2
     returns-3
     returns-4)

@@ -1,0 +1,60 @@
+// Standard input and output of the programs. A program has no exit status: a read or a write that fails is said in one line on standard
+// error. What is read and what is written no contract can say, so the promises only limit the results.
+use libc::STDERR_FILENO;
+use libc::STDIN_FILENO;
+use libc::STDOUT_FILENO;
+ghost use mathlib.Core.Path.{_≡_};
+ghost use mathlib.Core.Bool.{false, true};
+ghost use lib.ListN.{length};
+ghost use Rattle.io.specs.Counts.{Counts};
+
+// What a read gave: how many bytes it put at the front of the buffer, 0 at the end of the input; and whether it failed.
+pub struct Got {
+    pub count: usize,
+    pub failed: bool,
+}
+
+// Says which action on which file failed. Answers false: not all is done.
+pub fn fail(program: &[u8], action: &[u8], file: &[u8]) -> bool
+    ensures { λ r. ⌜ r ≡ false ⌝ }
+{
+    io::write_all(STDERR_FILENO, program);
+    io::write_all(STDERR_FILENO, b": cannot ");
+    io::write_all(STDERR_FILENO, action);
+    io::write_all(STDERR_FILENO, b" ");
+    io::write_all(STDERR_FILENO, file);
+    io::write_all(STDERR_FILENO, b"; the output is incomplete\n");
+    false
+}
+
+// Reads once.
+pub fn read(program: &[u8], input: &mut [u8]) -> Got
+    ensures within { λ r. ⌜ Counts (r .count) (now (input .exit)) ⌝ }
+    ensures nothing { λ r. ⌜ (r .failed ≡ true → r .count ≡ 0) ⌝ }
+{
+    let got = libc::read(STDIN_FILENO, input);
+    if got < 0 {
+        fail(program, b"read", b"standard input");
+        return Got {
+            count: 0,
+            failed: true,
+        };
+    }
+    Got {
+        count: io::count(got, input),
+        failed: false,
+    }
+}
+
+// Writes all of the bytes, and answers whether it could. Where it could not, some may have been written.
+pub fn write(program: &[u8], bytes: &[u8]) -> bool
+    ensures { λ r. ⌜ (length (now (bytes .entry)) ≡ 0 → r ≡ true) ⌝ }
+{
+    if bytes.len() == 0 {
+        return true;
+    }
+    if io::write_all(STDOUT_FILENO, bytes) {
+        return true;
+    }
+    fail(program, b"write", b"standard output")
+}
