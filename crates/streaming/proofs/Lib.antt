@@ -1,5 +1,6 @@
 pub mod Claims
-pub mod Pieces
-pub mod Newlines
+pub mod Kept
 pub mod Lines
-pub mod Digits
+pub mod Newlines
+pub mod Pieces
+pub mod Work

@@ -1,41 +1,46 @@
 -- The lines of an input: with their newlines put back they are the input, none has a newline in it, and each reply is fixed by its line.
-use mathlib.Core.Path.{_≡_, refl, sym, ap, _∙_, subst}
+use mathlib.Core.Path.{_≡_, refl, sym, ap, _∙_}
 use mathlib.Core.List.{List, [], _∷_, _++_, append-assoc, append-nil}
 use mathlib.Core.Bool.{Bool, true, false, cond}
-use Prim.Native.Nat.{ℕ, zero, suc, _+_, _*_, _≤_, _<_}
+use Prim.Native.Nat.{ℕ, zero, suc, _+_, _*_, _<_}
 use native.Mathlib.Nat.{zero-mul, suc-mul}
 use native.Mathlib.Omega.{arith}
 use lib.Dec.{eqb}
-use lib.ListN.{length, take, drop, getD, length-append, drop-of-length-le}
-use lib.Seq.{take-nil, append-snoc, take-at, drop-append-add, drop-cons}
-use borrow.Author.Tests.{eqb-true, eqb-false, eq-eqb, ne-eqb}
-use Rattle.streaming.specs.Sheet.{newline, ahead, linesOf, replies}
-use Rattle.streaming.specs.Pieces.{grown, answered, after, answers, ending, inPieces, joined, missing, lineLength}
+use lib.ListN.{length, take, drop, getD, length-append}
+use lib.Seq.{append-snoc, take-at, drop-append-add}
+use borrow.Author.Tests.{eqb-true, eqb-false}
+use Rattle.streaming.specs.Lines.{newline, ahead, linesOf, Machine, replies, moved, still}
+use Rattle.streaming.specs.Pieces.{grown, answered, movedBy, after, answers, ending}
 use Rattle.streaming.proofs.Pieces.{steps}
 
 -- ---- what the lines of an input are: with their newlines put back they are the input
 
-closed : List ℕ → List ℕ
-closed line = line ++ newline ∷ []
+-- a newline, where the input has none at its end
+unfoldable pub missing : List ℕ → List ℕ
+missing [] = []
+missing (b ∷ line) = newline ∷ []
 
-back : (line s : List ℕ) → answers closed line s ++ after line s ≡ line ++ s
-unfolding answers after answered grown closed
+closed : Machine (Unit {0})
+closed = still (λ line. line ++ newline ∷ [])
+
+back : (line t : List ℕ) → answers closed tt line t ++ after line t ≡ line ++ t
+unfolding answers after answered movedBy grown closed
 back line [] = sym (append-nil line)
-back line (b ∷ s) = go (eqb b newline) refl (back [] s) (back (line ++ b ∷ []) s)
+back line (b ∷ t) = go (eqb b newline) refl (back [] t) (back (line ++ b ∷ []) t)
   where
-    go : (c : Bool) → eqb b newline ≡ c → answers closed [] s ++ after [] s ≡ s → answers closed (line ++ b ∷ []) s ++ after (line ++ b ∷ []) s ≡ (line ++ b ∷ []) ++ s
-        → (cond c (closed line) [] ++ answers closed (cond c [] (line ++ b ∷ [])) s) ++ after (cond c [] (line ++ b ∷ [])) s ≡ line ++ b ∷ s
-    go true e h k = append-assoc (closed line) _ _ ∙ ap (λ (x : List ℕ). closed line ++ x) h ∙ append-snoc line newline s ∙ ap (λ (x : ℕ). line ++ x ∷ s) (sym (eqb-true b newline e))
-    go false e h k = k ∙ append-snoc line b s
+    go : (c : Bool) → eqb b newline ≡ c → answers closed tt [] t ++ after [] t ≡ t → answers closed tt (line ++ b ∷ []) t ++ after (line ++ b ∷ []) t ≡ (line ++ b ∷ []) ++ t
+        → (cond c (line ++ newline ∷ []) [] ++ answers closed (cond c tt tt) (cond c [] (line ++ b ∷ [])) t) ++ after (cond c [] (line ++ b ∷ [])) t ≡ line ++ b ∷ t
+    go true e h k = append-assoc (line ++ newline ∷ []) _ _ ∙ ap (λ (x : List ℕ). (line ++ newline ∷ []) ++ x) h ∙ append-snoc line newline t ∙ ap (λ (x : ℕ). line ++ x ∷ t) (sym (eqb-true b newline e))
+    go false e h k = k ∙ append-snoc line b t
 
-closed-ending : (l : List ℕ) → ending closed l ≡ l ++ missing l
+closed-ending : (l : List ℕ) → ending closed tt l ≡ l ++ missing l
 unfolding ending missing closed
 closed-ending [] = refl
 closed-ending (b ∷ l) = refl
 
-pub lines-back : (s : List ℕ) → replies (λ line. line ++ newline ∷ []) (linesOf s) ≡ s ++ missing (after [] s)
+pub lines-back : (t : List ℕ) → replies (still (λ line. line ++ newline ∷ [])) tt (linesOf t) ≡ t ++ missing (after [] t)
 unfolding closed
-lines-back s = steps closed s ∙ ap (λ (x : List ℕ). answers closed [] s ++ x) (closed-ending (after [] s)) ∙ sym (append-assoc (answers closed [] s) _ _) ∙ ap (λ (x : List ℕ). x ++ missing (after [] s)) (back [] s)
+lines-back t = steps closed tt t ∙ ap (λ (x : List ℕ). answers closed tt [] t ++ x) (closed-ending (after [] t)) ∙ sym (append-assoc (answers closed tt [] t) _ _) ∙ ap (λ (x : List ℕ). x ++ missing (after [] t)) (back [] t)
 
 -- and no line has a newline in it
 pub lines-plain : (s : List ℕ) (k j : ℕ) → getD (getD (linesOf s) k []) j 0 ≡ newline → ⊥
@@ -53,18 +58,18 @@ lines-plain (b ∷ s) k j e = go (eqb b newline) refl (linesOf s) (lines-plain s
     go false t (l ∷ ls) h zero (suc j) e = h zero j e
     go false t (l ∷ ls) h (suc k) j e = h (suc k) j e
 
--- ---- each reply is fixed by its line: where all replies have w bytes, the kth is the w bytes from k w on
+-- ---- each reply is fixed by its line and by the state that the lines before it leave: where all replies have w bytes, the kth is the w bytes from k w on
 
-module _ (reply : List ℕ → List ℕ) (w : ℕ) (wide : (line : List ℕ) → length (reply line) ≡ w) where
-  pub replies-length : (ls : List (List ℕ)) → length (replies reply ls) ≡ length ls * w
+module _ {S : Type 0} (m : Machine S) (w : ℕ) (wide : (s : S) (line : List ℕ) → length (m .reply s line) ≡ w) where
+  pub replies-length : (s : S) (ls : List (List ℕ)) → length (replies m s ls) ≡ length ls * w
   unfolding replies
-  replies-length [] = sym (zero-mul w)
-  replies-length (l ∷ ls) = length-append (reply l) (replies reply ls) ∙ omega (arith, wide l, replies-length ls, suc-mul (length ls) w)
+  replies-length s [] = sym (zero-mul w)
+  replies-length s (l ∷ ls) = length-append (m .reply s l) (replies m (m .move s l) ls) ∙ omega (arith, wide s l, replies-length (m .move s l) ls, suc-mul (length ls) w)
 
-  pub reply-at : (ls : List (List ℕ)) (k : ℕ) → k < length ls → take w (drop (k * w) (replies reply ls)) ≡ reply (getD ls k [])
-  unfolding replies
-  reply-at [] k h = absurd (omega arith)
-  reply-at (l ∷ ls) zero h = rw zero-mul (take-at (reply l) (replies reply ls) w (wide l))
-  reply-at (l ∷ ls) (suc k) h =
-      let e : suc k * w ≡ length (reply l) + k * w = omega (arith, suc-mul k w, wide l) in
-      ap (λ (n : ℕ). take w (drop n (reply l ++ replies reply ls))) e ∙ ap (take w) (drop-append-add (reply l) (replies reply ls) (k * w)) ∙ reply-at ls k (omega arith)
+  pub reply-at : (s : S) (ls : List (List ℕ)) (k : ℕ) → k < length ls → take w (drop (k * w) (replies m s ls)) ≡ m .reply (moved m s (take k ls)) (getD ls k [])
+  unfolding replies moved
+  reply-at s [] k h = absurd (omega arith)
+  reply-at s (l ∷ ls) zero h = rw zero-mul (take-at (m .reply s l) (replies m (m .move s l) ls) w (wide s l))
+  reply-at s (l ∷ ls) (suc k) h =
+      let e : suc k * w ≡ length (m .reply s l) + k * w = omega (arith, suc-mul k w, wide s l) in
+      ap (λ (n : ℕ). take w (drop n (m .reply s l ++ replies m (m .move s l) ls))) e ∙ ap (take w) (drop-append-add (m .reply s l) (replies m (m .move s l) ls) (k * w)) ∙ reply-at (m .move s l) ls k (omega arith)

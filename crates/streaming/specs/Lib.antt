@@ -1,3 +1,3 @@
-pub mod Sheet
+pub mod Lines
 pub mod Pieces
-pub mod Digits
+pub mod Work

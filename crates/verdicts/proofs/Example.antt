@@ -6,9 +6,11 @@ use Rattle.counting.specs.Calendar.{total, start, dayOf}
 use Rattle.counting.specs.Answers.{years, dayFor}
 use Rattle.calendar_rules.specs.Calendars.{lookup, calendar}
 use Rattle.calendar_rules.specs.Answers.{dayAnswer}
-use Rattle.streaming.specs.Sheet.{linesOf, twoDigits, replies, outputOf}
-use Rattle.streaming.specs.Digits.{digitOf, allDigits, isFrame, numberFrom, field}
-use Rattle.verdicts.specs.Verdict.{against, verdictOf}
+use Rattle.hex.specs.Digits.{digitOf, allDigits, sixteenDigits, numberFrom, field, writtenIn}
+use Rattle.frames.specs.Frame.{fieldsOf}
+use Rattle.streaming.specs.Lines.{linesOf, replies}
+use Rattle.verdicts.specs.Verdict.{against, verdictOn, verdictOf}
+use Rattle.verdicts.specs.Sheet.{twoDigits, sheetOf}
 
 -- 0b1a380101256859, 0b1a38010125685a, xyz
 abbrev pub input : List ℕ
@@ -21,6 +23,6 @@ input =
 abbrev pub output : List ℕ
 output = 48 ∷ 48 ∷ 10 ∷ 48 ∷ 57 ∷ 10 ∷ 48 ∷ 56 ∷ 10 ∷ []
 
-pub example : outputOf verdictOf input ≡ output
-unfolding outputOf linesOf replies twoDigits verdictOf against isFrame allDigits digitOf numberFrom field dayAnswer calendar lookup dayFor years dayOf start total
+pub example : sheetOf input ≡ output
+unfolding sheetOf linesOf replies twoDigits writtenIn verdictOf verdictOn fieldsOf against sixteenDigits allDigits digitOf numberFrom field dayAnswer calendar lookup dayFor years dayOf start total
 example = refl

@@ -1,100 +1,110 @@
--- A piece of an input: the line that earlier pieces began, then whole lines, then what is kept of the last.
+-- What the code takes of an input: a frame with its newline, the rest of any line, a newline. And what a program needs that writes what was judged.
 use mathlib.Core.Path.{_≡_, refl, sym, ap, _∙_, subst}
-use mathlib.Core.List.{List, [], _∷_, _++_, append-assoc, append-nil}
-use Prim.Native.Nat.{ℕ, suc, _+_, _-_, _*_, _/_, _≤_, _<_, min}
+use mathlib.Core.List.{List, [], _∷_, _++_}
+use Prim.Native.Nat.{ℕ, _+_, _-_, _*_, _/_, _≤_, _<_, min}
 use native.Mathlib.Omega.{arith}
-use lib.ListN.{length, take, drop, length-take, length-drop, length-append, drop-of-length-le}
-use lib.Seq.{take-all, drop-drop}
-use Rattle.streaming.specs.Sheet.{twoDigits}
-use Rattle.streaming.specs.Pieces.{after, answers, lineLength}
-use Rattle.streaming.proofs.Newlines.{AtNewline, NoNewline, at-newline, no-newline}
+use lib.ListN.{length, take, drop, getD, length-append, length-drop, length-take}
+use lib.Seq.{drop-cons, take-suc, getD-drop, getD-take}
+use Rattle.hex.specs.Digits.{digitOf, writtenIn}
+use Rattle.hex.proofs.Claims.{sixteen-parts}
+use Rattle.hex.proofs.Laws.{plain-digits}
+use Rattle.streaming.specs.Lines.{newline}
+use Rattle.streaming.specs.Pieces.{answers}
+use Rattle.streaming.specs.Work.{WorkedFrom}
+use Rattle.streaming.proofs.Pieces.{Reads}
+use Rattle.streaming.proofs.Newlines.{Plain}
+use Rattle.streaming.proofs.Work.{unended, ended, whole-line, whole-input, few, same-size}
 use Rattle.verdicts.specs.declared.Ending.{Ending}
 use Rattle.verdicts.specs.declared.Progress.{Progress}
 use Rattle.verdicts.specs.declared.Unfinished.{Unfinished}
 use Rattle.verdicts.specs.Verdict.{verdictOf}
-use Rattle.verdicts.specs.Kept.{reply, keptOf, taken, Judged, endingOf}
-use Rattle.verdicts.specs.Inner.{Through}
+use Rattle.verdicts.specs.Sheet.{twoDigits, judging}
+use Rattle.verdicts.specs.Kept.{most, keptOf, taken, Judged, endingOf}
+use Rattle.verdicts.specs.Inner.{FrameAt, LineEnd, TakesFrom}
 use Rattle.verdicts.proofs.Verdicts.{first-bytes}
 
--- no line ends in the input
-pub none-ends : (u first : Unfinished) (input out : List ℕ) (end : ℕ) → end ≡ 0 + lineLength input → end ≡ length input → keptOf first ≡ take 17 (keptOf u ++ take end input) → Judged u input out (record { state = first; consumed = length input; written = 0 }) out
-none-ends u first input out end e l k =
-    record {
-      consumed = refl;
-      written = sym (ap length (o .written));
-      buffer = ap (λ (x : List ℕ). x ++ out) (sym (o .written));
-      state = k ∙ ap (take 17) (ap (λ (x : List ℕ). keptOf u ++ x) (take-all end input (omega arith)) ∙ sym (o .left));
-    }
-  where
-    o : NoNewline reply (keptOf u) input
-    o = no-newline reply (keptOf u) input (omega arith)
+-- ---- replies
 
--- the parts that the code passes on: what stands behind the first newline, and the buffer behind the first answer
-abbrev pub behind : List ℕ → ℕ → List ℕ
-behind l at = take (length l - at) (drop at l)
+-- 17 bytes of a line fix its reply
+pub reads : Reads most judging
+reads = record { reply = λ s line. ap twoDigits (first-bytes line); move = λ s line. refl }
 
-behind-is : (l : List ℕ) (at : ℕ) → behind l at ≡ drop at l
-behind-is l at = take-all (length l - at) (drop at l) (omega (arith, length-drop at l))
+pub three-bytes : (n : ℕ) → length (twoDigits n) ≡ 3
+unfolding twoDigits writtenIn
+three-bytes n = refl
 
--- a line ends in the input: its answer, those of the whole lines behind it, and what is kept of the last
-pub some-end :
-    (u first fresh last : Unfinished) (input out out₁ out₂ : List ℕ) (end answer next written : ℕ)
-    → end ≡ 0 + lineLength input → end < length input → length input * 3 ≤ length out
-    → keptOf first ≡ take 17 (keptOf u ++ take end input) → answer ≡ verdictOf (keptOf first) → out₁ ≡ twoDigits answer ++ drop 3 out
-    → Through (behind input (end + 1)) (behind out₁ 3) next written out₂
-    → keptOf fresh ≡ [] → keptOf last ≡ take 17 (keptOf fresh ++ behind (behind input (end + 1)) next)
-    → Judged u input out (record { state = last; consumed = length input; written = written + 3 }) (take 3 out₁ ++ (out₂ ++ drop (length out₁ - 3) (drop 3 out₁)))
-unfolding twoDigits
-some-end u first fresh last input out out₁ out₂ end answer next written e l m k v p t f r =
-    record {
-      consumed = refl;
-      written = sym (ap length whole ∙ length-append (twoDigits answer) (answers reply [] rest) ∙ omega (arith, t .count, ap (λ (x : List ℕ). length (answers reply [] x)) same));
-      buffer =
-          ap (λ (x : List ℕ). x ++ (out₂ ++ drop (length out₁ - 3) (drop 3 out₁))) (ap (take 3) p)
-          ∙ ap (λ (x : List ℕ). twoDigits answer ++ x) (ap (λ (x : List ℕ). out₂ ++ x) over ∙ append-nil out₂ ∙ t .buffer ∙ ap (λ (x : List ℕ). answers reply [] x ++ drop written (behind out₁ 3)) same ∙ ap (λ (x : List ℕ). answers reply [] rest ++ x) far)
-          ∙ sym (append-assoc (twoDigits answer) (answers reply [] rest) (drop (written + 3) out))
-          ∙ ap (λ (x : List ℕ). x ++ drop (written + 3) out) (sym whole);
-      state =
-          r ∙ ap (λ (x : List ℕ). take 17 (x ++ behind (behind input (end + 1)) next)) f ∙ ap (take 17) (behind-is (behind input (end + 1)) next ∙ sym (t .left) ∙ ap (after []) same ∙ sym (a .left));
-    }
-  where
-    n : ℕ
-    n = lineLength input
+-- no byte has more than three written
+pub few-written : {input : List ℕ} {i j : ℕ} {kept kept′ out out′ : List ℕ} {at at′ : ℕ} → WorkedFrom judging most input i j tt kept out at tt kept′ out′ at′ → at′ ≤ at + (j - i) * 3
+few-written w = few judging 3 (λ s line. three-bytes (verdictOf line)) w
 
-    a : AtNewline reply (keptOf u) input
-    a = at-newline reply (keptOf u) input (omega arith)
+-- the buffer keeps its length
+pub same-buffer : {input : List ℕ} {i j : ℕ} {kept kept′ out out′ : List ℕ} {at at′ : ℕ} → at + (length input - i) * 3 ≤ length out
+    → WorkedFrom judging most input i j tt kept out at tt kept′ out′ at′ → length out′ ≡ length out
+same-buffer h w = same-size (w .work) (omega (arith, few-written w, w .on, w .within))
 
-    rest : List ℕ
-    rest = drop (suc n) input
+-- ---- what is taken
 
-    same : behind input (end + 1) ≡ rest
-    same = let k : end + 1 ≡ suc n = omega arith in behind-is input (end + 1) ∙ ap (λ (k : ℕ). drop k input) k
+-- the reply behind what was written
+in-place : {out′ : List ℕ} {v x : ℕ} (at : ℕ) (out : List ℕ) (at′ : ℕ) → at′ ≡ at + 3 → v ≡ x → out′ ≡ take at out ++ (twoDigits v ++ drop (at + 3) out) → out′ ≡ take at out ++ (twoDigits x ++ drop at′ out)
+in-place at out at′ i w o = rw (i, ← w) o
 
-    over : drop (length out₁ - 3) (drop 3 out₁) ≡ []
-    over = drop-of-length-le (drop 3 out₁) {i = length out₁ - 3} (omega (arith, length-drop 3 out₁))
+-- the line of a frame
+pub frame-taken : {input out out′ : List ℕ} {from next v at at′ : ℕ} → from + 16 < length input → at ≤ length out → FrameAt input from v → out′ ≡ take at out ++ (twoDigits v ++ drop (at + 3) out)
+    → next ≡ from + 17 → at′ ≡ at + 3 → WorkedFrom judging most input from next tt [] out at tt [] out′ at′
+unfolding digitOf
+frame-taken {input} {out} {out′} {from} {next} {v} {at} {at′} h a f o e i =
+    let line = take 16 (drop from input) in
+    let p : Plain line = record { none = plain-digits line (sixteen-parts line (f .digits) .1) newline refl } in
+    let n : next - from ≡ 17 = omega arith in
+    let b : take 17 (drop from input) ≡ line ++ newline ∷ [] =
+    take-suc (drop from input) 16 0 (omega (arith, length-drop from input)) ∙ ap (λ (x : ℕ). line ++ x ∷ []) (getD-drop from input 16 0 ∙ f .ends) in
+    record { on = omega arith; within = omega arith; work = rw (n, b) (whole-line judging most (omega arith) reads p a refl (i ∙ omega (arith, three-bytes (verdictOf line))) (in-place at out at′ i (f .verdict) o)) }
 
-    -- the first answer is that of the whole line, since 17 bytes fix it
-    first-answer : twoDigits answer ≡ reply (keptOf u ++ take n input)
-    first-answer = let j : end ≡ n = omega arith in ap twoDigits (v ∙ ap verdictOf k ∙ first-bytes (keptOf u ++ take end input) ∙ ap (λ (i : ℕ). verdictOf (keptOf u ++ take i input)) j)
+-- the bytes of a line up to its newline, or to the end of the input
+pub line-taken : {kept kept′ input : List ℕ} {from end : ℕ} (out : List ℕ) (at : ℕ) → at ≤ length out → LineEnd input from end → kept′ ≡ take most (kept ++ take (end - from) (drop from input))
+    → WorkedFrom judging most input from end tt kept out at tt kept′ out at
+line-taken {kept} {kept′} {input} {from} {end} out at a l k =
+    let line = take (end - from) (drop from input) in
+    let size = length-take (end - from) (drop from input) in
+    let p : Plain line = record { none = λ i h e. l .plain (from + i) (omega arith) (omega arith) (sym (getD-take (end - from) (drop from input) i 0 (omega arith) ∙ getD-drop from input i 0) ∙ e) } in
+    record { on = l .on; within = l .within; work = unended judging most tt out at p a k }
 
-    whole : answers reply (keptOf u) input ≡ twoDigits answer ++ answers reply [] rest
-    whole = a .written ∙ ap (λ (x : List ℕ). x ++ answers reply [] rest) (sym first-answer)
+-- and the newline
+pub newline-taken : {kept input out out′ : List ℕ} {end next at at′ v : ℕ} → end < length input → getD input end 0 ≡ newline → v ≡ verdictOf kept → out′ ≡ take at out ++ (twoDigits v ++ drop (at + 3) out)
+    → next ≡ end + 1 → at′ ≡ at + 3 → WorkedFrom judging most input end next tt kept out at tt [] out′ at′
+newline-taken {kept} {input} {out} {out′} {end} {next} {at} {at′} {v} h e w o j i =
+    let n : next - end ≡ 1 = omega arith in
+    let b : take 1 (drop end input) ≡ newline ∷ [] = ap (take 1) (drop-cons input end 0 h) ∙ ap (λ (x : ℕ). x ∷ []) e in
+    record { on = omega arith; within = omega arith; work = rw (n, b) (ended judging most refl (i ∙ omega (arith, three-bytes (verdictOf kept))) (in-place at out at′ i w o)) }
 
-    far : drop written (behind out₁ 3) ≡ drop (written + 3) out
-    far = let k : 3 + written ≡ written + 3 = omega arith in ap (drop written) (behind-is out₁ 3 ∙ ap (drop 3) p) ∙ drop-drop written 3 out ∙ ap (λ (k : ℕ). drop k out) k
+-- what is kept has room in the array
+pub kept-few : (u : Unfinished) → length (u .bytes) ≡ 17 → length (keptOf u) ≤ most
+unfolding keptOf
+kept-few u h = omega (arith, length-take (u .count) (u .bytes))
+
+pub none-kept : (u : Unfinished) → u .count ≡ 0 → [] ≡ keptOf u
+unfolding keptOf
+none-kept u h = rw h
+
+-- all of an input
+pub judged : {u u′ : Unfinished} {input out out′ : List ℕ} {i at consumed written : ℕ} → TakesFrom u input 0 i out 0 u′ out′ at → i ≡ length input → consumed ≡ i → written ≡ at
+    → Judged u input out (record { state = u′; consumed = consumed; written = written }) out′
+judged {u} {u′} {input} {out} {out′} {i} {at} {consumed} {written} w e c n =
+    let v = whole-input (subst (λ (k : ℕ). TakesFrom u input 0 k out 0 u′ out′ at) e w) in
+    record { consumed = c ∙ e; written = omega (arith, v .count); buffer = rw n (v .buffer); state = v .left }
 
 -- ---- for a program that writes what was judged: it lies within the buffer
 
 pub written-within : {u : Unfinished} {input out : List ℕ} {r : Progress} {out′ : List ℕ} → Judged u input out r out′ → r .written ≤ length out′
-written-within {u} {input} {out} {r} {out′} j = omega (arith, j .written, ap length (j .buffer), length-append (answers reply (keptOf u) input) (drop (r .written) out))
+written-within {u} {input} {out} {r} {out′} j = omega (arith, j .written, ap length (j .buffer), length-append (answers judging tt (keptOf u) input) (drop (r .written) out))
 
 pub consumed-within : (piece : List ℕ) {u : Unfinished} {out : List ℕ} {r : Progress} {out′ : List ℕ} → Judged u (taken piece out) out r out′ → r .consumed ≤ length piece
 consumed-within piece {u} {out} j = omega (arith, j .consumed, length-take (min (length piece) (length out / 3)) piece)
 
 ending-within : (line : List ℕ) → endingOf line .count ≤ length (endingOf line .bytes)
-unfolding endingOf twoDigits
+unfolding endingOf
 ending-within [] = omega arith
-ending-within (b ∷ line) = omega arith
+ending-within (b ∷ line) = omega (arith, three-bytes (verdictOf (b ∷ line)))
 
 pub finished-within : (line : List ℕ) (r : Ending) → r ≡ endingOf line → r .count ≤ length (r .bytes)
 finished-within line r e = subst (λ (x : Ending). x .count ≤ length (x .bytes)) (sym e) (ending-within line)

@@ -1,56 +1,47 @@
--- The verdict on a line, case by case: of another length, with another byte than a digit, and a frame read as one number.
+-- The verdict on a line, case by case: of another length, with another byte than a digit, and a frame.
 -- And that the first 17 bytes of a line fix its verdict.
 use mathlib.Core.Path.{_≡_, refl, sym, ap, _∙_}
 use mathlib.Core.List.{List}
-use mathlib.Core.Bool.{Bool, true, false, and-false, cond}
-use Prim.Native.Nat.{ℕ}
+use mathlib.Core.Bool.{Bool, true, false}
+use Prim.Native.Nat.{ℕ, _+_, _-_}
 use native.Mathlib.Omega.{arith}
-use native.Mathlib.Nat.{div-one}
 use lib.Dec.{ltb}
-use lib.ListN.{length, take}
+use lib.ListN.{length, take, drop, getD}
 use lib.Seq.{take-all, length-take-le}
 use borrow.Author.Tests.{eq-eqb, ne-eqb, ltb-true, ltb-false}
 use Rattle.refusals.specs.Number.{numberOf}
 use Rattle.refusals.specs.declared.Refusal.{Refusal}
 use Rattle.refusals.proofs.Claims.{not-zero}
-use Rattle.streaming.specs.Digits.{allDigits, isFrame, numberIn}
-use Rattle.streaming.proofs.Digits.{part}
-use Rattle.verdicts.specs.declared.digits.Digits.the-variants.{Number, Malformed}
-use Rattle.verdicts.specs.Verdict.{against, verdictOf}
-use Rattle.verdicts.specs.Inner.{digitsOf, numberVerdict}
+use Rattle.hex.specs.Digits.{sixteenDigits}
+use Rattle.frames.specs.declared.Frame.{Frame}
+use Rattle.frames.specs.declared.Reading.the-variants.{Fields}
+use Rattle.frames.specs.Frame.{fieldsOf, readingOf}
+use Rattle.frames.proofs.Claims.{is-fields}
+use Rattle.streaming.specs.Lines.{newline}
+use Rattle.verdicts.specs.Verdict.{against, verdictOn, verdictOf}
+use Rattle.verdicts.specs.Inner.{FrameAt}
 
 -- ---- a line that is no frame
 
 pub other-length : (line : List ℕ) → (length line ≡ 16 → ⊥) → verdictOf line ≡ 8
-unfolding verdictOf isFrame
+unfolding verdictOf sixteenDigits
 other-length line h = rw (ne-eqb (length line) 16 h)
 
-pub other-bytes : (line : List ℕ) → allDigits line ≡ false → verdictOf line ≡ 8
-unfolding verdictOf isFrame
-other-bytes line h = rw (h, and-false)
+pub no-frame : (line : List ℕ) → sixteenDigits line ≡ false → verdictOf line ≡ 8
+unfolding verdictOf
+no-frame line h = rw h
 
--- ---- a frame, read as one number
+pub frame : (line : List ℕ) → sixteenDigits line ≡ true → verdictOf line ≡ verdictOn (fieldsOf line)
+unfolding verdictOf
+frame line h = rw h
 
-pub frame : (line : List ℕ) → length line ≡ 16 → allDigits line ≡ true → verdictOf line ≡ numberVerdict (numberIn line)
-unfolding verdictOf isFrame numberVerdict
-frame line h a = rw (eq-eqb (length line) 16 h, a, part line 0 2 14 a h, part line 2 4 10 a h, part line 6 2 8 a h, part line 8 2 6 a h, part line 10 6 0 a h, div-one)
-
--- ---- what reading the digits says of a line
-pub read : (line : List ℕ) (n : ℕ) → Number n ≡ digitsOf line → (allDigits line ≡ true) × (n ≡ numberIn line)
-unfolding digitsOf
-read line n = go (allDigits line)
-  where
-    go : (c : Bool) → Number n ≡ cond c (Number (numberIn line)) Malformed → (c ≡ true) × (n ≡ numberIn line)
-    go true e = (refl, cc)
-    go false e = let z : _≡_ {A = ℕ} 0 1 = cc in absurd (omega arith)
-
-pub unread : (line : List ℕ) → Malformed ≡ digitsOf line → allDigits line ≡ false
-unfolding digitsOf
-unread line = go (allDigits line)
-  where
-    go : (c : Bool) → Malformed ≡ cond c (Number (numberIn line)) Malformed → c ≡ false
-    go true e = let z : _≡_ {A = ℕ} 0 1 = cc in absurd (omega arith)
-    go false e = refl
+-- sixteen digits and a newline at `stop`, read and judged
+pub frame-at : (input : List ℕ) (from stop v : ℕ) (f : Frame) → getD input stop 0 ≡ newline → Fields f ≡ readingOf (take (stop - from) (drop from input)) → v ≡ verdictOn f → stop ≡ from + 16
+    → FrameAt input from v
+frame-at input from stop v f e d w h =
+    let l : stop - from ≡ 16 = omega arith in
+    let r = is-fields (take 16 (drop from input)) f (rw l at d) in
+    record { ends = rw h at e; digits = r .0; verdict = w ∙ ap verdictOn (r .1) ∙ sym (frame (take 16 (drop from input)) (r .0)) }
 
 -- ---- what date to day answers, against the frame's day
 

@@ -3,16 +3,11 @@ use mathlib.Core.Path.{_≡_}
 use mathlib.Core.List.{List, [], _∷_, _++_}
 use Prim.Native.Nat.{ℕ, _/_, min}
 use lib.ListN.{length, take, drop}
-use Rattle.streaming.specs.Sheet.{twoDigits}
 use Rattle.streaming.specs.Pieces.{after, answers}
 use Rattle.verdicts.specs.declared.Unfinished.{Unfinished}
 use Rattle.verdicts.specs.declared.Progress.{Progress}
 use Rattle.verdicts.specs.declared.Ending.{Ending}
-use Rattle.verdicts.specs.Verdict.{verdictOf}
-
--- the reply to a line
-abbrev pub reply : List ℕ → List ℕ
-reply line = twoDigits (verdictOf line)
+use Rattle.verdicts.specs.Sheet.{reply, judging}
 
 -- how many bytes of an unfinished line are kept: one more than a frame has, so that a line that is too long is known as such
 abbrev pub most : ℕ
@@ -30,8 +25,8 @@ taken piece out = take (min (length piece) (length out / 3)) piece
 -- Of the next state what it keeps is said: the bytes past its count mean nothing, and nothing reads them.
 pub record Judged (u : Unfinished) (input out : List ℕ) (r : Progress) (out′ : List ℕ) : Type 0 where
   pub consumed : r .consumed ≡ length input
-  pub written : r .written ≡ length (answers reply (keptOf u) input)
-  pub buffer : out′ ≡ answers reply (keptOf u) input ++ drop (r .written) out
+  pub written : r .written ≡ length (answers judging tt (keptOf u) input)
+  pub buffer : out′ ≡ answers judging tt (keptOf u) input ++ drop (r .written) out
   pub state : keptOf (r .state) ≡ take most (after (keptOf u) input)
 
 -- what the end of the input adds: nothing where no line is unfinished

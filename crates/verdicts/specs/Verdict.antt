@@ -6,7 +6,9 @@ use lib.Dec.{eqb}
 use Rattle.refusals.specs.Number.{numberOf}
 use Rattle.counting.specs.Answers.{DayAnswer}
 use Rattle.calendar_rules.specs.Answers.{dayAnswer}
-use Rattle.streaming.specs.Digits.{isFrame, calendarIn, yearIn, monthIn, dayIn, dayNumberIn}
+use Rattle.hex.specs.Digits.{sixteenDigits}
+use Rattle.frames.specs.declared.Frame.{Frame}
+use Rattle.frames.specs.Frame.{fieldsOf, yearOf}
 use Rattle.verdicts.specs.declared.Verdict.{Verdict}
 use Rattle.verdicts.specs.declared.Verdict.the-variants.{Right, Refused}
 
@@ -15,10 +17,18 @@ abbrev pub verdictNumber : Verdict → ℕ
 verdictNumber Right = 0
 verdictNumber (Refused why) = numberOf why
 
--- what date to day answers for the frame's date, against the frame's day: the first number that applies, 9 where the date is good and the day differs
+-- what date to day answers for the date of a frame
+abbrev pub answerFor : Frame → DayAnswer
+answerFor f = dayAnswer (f .calendar) (yearOf f) (f .month) (f .day)
+
+-- that answer against the frame's day: the first number that applies, 9 where the date is good and the day differs
 unfoldable pub against : DayAnswer → ℕ → ℕ
 against answer day = cond (eqb (answer .number) 0) (cond (eqb (answer .day) day) 0 9) (answer .number)
 
+-- the verdict on a frame with these fields
+unfoldable pub verdictOn : Frame → ℕ
+verdictOn f = against (answerFor f) (f .number)
+
 -- the verdict on a line of any bytes: 8 unless it is exactly 16 lowercase hexadecimal digits
 unfoldable pub verdictOf : List ℕ → ℕ
-verdictOf line = cond (isFrame line) (against (dayAnswer (calendarIn line) (yearIn line) (monthIn line) (dayIn line)) (dayNumberIn line)) 8
+verdictOf line = cond (sixteenDigits line) (verdictOn (fieldsOf line)) 8

@@ -1,22 +1,21 @@
 // One line of a sheet and its verdict, and whole sheets piece by piece in lent buffers.
 // `proofs/Claims.antt` is the page to read first.
-mod digits;
 mod lines;
 
 use calendars::Date;
 use calendars::Day;
-use digits::Digits;
-use lines::line_end;
+use frames::Frame;
+use frames::Reading;
+use lines::kept_number;
 use lines::put;
-use lines::whole_lines;
+use lines::take_some;
 use refusals::Refusal;
 ghost use mathlib.Core.Path.{_≡_};
-ghost use mathlib.Core.List.{[], _++_};
-ghost use Prim.Native.Nat.{_*_, _≤_, min};
-ghost use lib.ListN.{length, take};
-ghost use Rattle.verdicts.specs.Verdict.{verdictNumber, verdictOf};
-ghost use Rattle.verdicts.specs.Kept.{keptOf, most, taken, Judged, endingOf};
-ghost use Rattle.verdicts.specs.Inner.{digitTable, numberVerdict};
+ghost use mathlib.Core.List.{[]};
+ghost use Prim.Native.Nat.{_*_, _≤_, _<_, _^_, min};
+ghost use lib.ListN.{length};
+ghost use Rattle.verdicts.specs.Verdict.{verdictNumber, verdictOn, verdictOf};
+ghost use Rattle.verdicts.specs.Kept.{keptOf, taken, Judged, endingOf};
 
 // The verdict on a line: its frame is right, or why it is not.
 pub enum Verdict {
@@ -34,19 +33,19 @@ pub fn number(v: Verdict) -> u8
     }
 }
 
-// The verdict on a frame whose 16 digits write n: calendar 2 digits, year plus 4,712 as 4, month 2, day of month 2, day number 6.
-fn judge_frame(n: u64) -> Verdict
-    ensures { λ r. ⌜ verdictNumber r ≡ numberVerdict n ⌝ }
+// The verdict on a frame with these fields.
+fn judge_frame(f: Frame) -> Verdict
+    requires { ⌜ f .year < 16 ^ 4 ⌝ }
+    ensures { λ r. ⌜ verdictNumber r ≡ verdictOn f ⌝ }
 {
-    let year = (n / 0x100_0000_0000 % 0x1_0000) as i64;
     let date = Date {
-        year: year - 4712,
-        month: n / 0x1_0000_0000 % 0x100,
-        day: n / 0x100_0000 % 0x100,
+        year: (f.year as i64) - 4712,
+        month: f.month,
+        day: f.day,
     };
-    match calendars::date_to_day(n / 0x100_0000_0000_0000 % 0x100, date) {
+    match calendars::date_to_day(f.calendar, date) {
         Day::Number(day) => {
-            if day == n % 0x100_0000 {
+            if day == f.number {
                 Verdict::Right
             } else {
                 Verdict::Refused(Refusal::WrongDay)
@@ -56,25 +55,14 @@ fn judge_frame(n: u64) -> Verdict
     }
 }
 
-fn judge_bytes(table: &[u8; 256], line: &[u8]) -> Verdict
-    requires { ⌜ now table ≡ digitTable ⌝ }
-    ensures { λ r. ⌜ verdictNumber r ≡ verdictOf (now (line .entry)) ⌝ }
-{
-    if line.len() != 16 {
-        return Verdict::Refused(Refusal::MalformedFrame);
-    }
-    match digits::number(table, line) {
-        Digits::Number(n) => judge_frame(n),
-        Digits::Malformed => Verdict::Refused(Refusal::MalformedFrame),
-    }
-}
-
 // The verdict on a line of any bytes, without its newline.
 pub fn judge_line(line: &[u8]) -> Verdict
     ensures { λ r. ⌜ verdictNumber r ≡ verdictOf (now (line .entry)) ⌝ }
 {
-    let table = digits::table();
-    judge_bytes(&table, line)
+    match frames::read(line) {
+        Reading::Fields(f) => judge_frame(f),
+        Reading::Malformed => Verdict::Refused(Refusal::MalformedFrame),
+    }
 }
 
 // What is kept of a line that the pieces so far have not finished: its first bytes, one more than a frame has.
@@ -95,36 +83,6 @@ impl Unfinished {
     }
 }
 
-// The state with more bytes of the line.
-fn keep(line: Unfinished, more: &[u8]) -> Unfinished
-    ensures { λ r. ⌜ keptOf r ≡ take most (keptOf line ++ now (more .entry)) ⌝ }
-{
-    let mut bytes = line.bytes;
-    let mut count = line.count;
-    let mut i = 0;
-    while i < more.len() {
-        if count > 16 {
-            return Unfinished { bytes, count };
-        }
-        bytes[count] = more[i];
-        count += 1;
-        i += 1;
-    }
-    Unfinished { bytes, count }
-}
-
-// The number of the verdict on the line that is kept.
-fn kept_number(line: Unfinished) -> u8
-    ensures { λ r. ⌜ r ≡ verdictOf (keptOf line) ⌝ }
-{
-    let bytes = line.bytes;
-    let count = line.count;
-    if count > 16 {
-        return number(judge_line(&bytes));
-    }
-    number(judge_line(&bytes[..count]))
-}
-
 // What a call has done with a piece: the state for the next, how many bytes of the piece it took, and how many it wrote.
 pub struct Progress {
     pub state: Unfinished,
@@ -133,31 +91,23 @@ pub struct Progress {
 }
 
 // Judges the lines that end in the input, for which out has room.
-fn judge_all(state: Unfinished, input: &[u8], out: &mut [u8]) -> Progress
+fn judge_all(start: Unfinished, input: &[u8], out: &mut [u8]) -> Progress
     requires { ⌜ length (now input) * 3 ≤ length (now out) ⌝ }
-    ensures { λ r. ⌜ Judged state (now (input .entry)) (now (out .entry)) r (now (out .exit)) ⌝ }
+    ensures { λ r. ⌜ Judged start (now (input .entry)) (now (out .entry)) r (now (out .exit)) ⌝ }
 {
-    let consumed = input.len();
-    let end = line_end(input, 0);
-    let first = keep(state, &input[..end]);
-    if end == consumed {
-        return Progress {
-            state: first,
-            consumed,
-            written: 0,
-        };
+    let mut state = start;
+    let mut written = 0;
+    let mut i = 0;
+    while i < input.len() {
+        let done = take_some(state, input, i, out, written);
+        let after = done.state;
+        state = after;
+        written = done.written;
+        i = done.next;
     }
-    let answer = kept_number(first);
-    put(out, 0, answer);
-    let rest = &input[end + 1..];
-    let table = digits::table();
-    let done = whole_lines(&table, rest, &mut out[3..]);
-    let next = done.next;
-    let written = done.written + 3;
-    let last = keep(Unfinished::new(), &rest[next..]);
     Progress {
-        state: last,
-        consumed,
+        state,
+        consumed: i,
         written,
     }
 }
@@ -169,7 +119,7 @@ fn least(a: usize, b: usize) -> usize
 }
 
 // Judges the lines that end in the piece, and writes their answers to the front of out. It takes as many bytes of the piece as out
-// has room for answers, since each could be a newline.
+// has room for answers, since each could be a newline: with an out of under 3 bytes it takes nothing.
 pub fn judge_piece(state: Unfinished, piece: &[u8], out: &mut [u8]) -> Progress
     ensures { λ r. ⌜ Judged state (taken (now (piece .entry)) (now (out .entry))) (now (out .entry)) r (now (out .exit)) ⌝ }
 {

@@ -1,18 +1,91 @@
-// The lines that end in a part of an input that starts at a line's start, from newline to newline.
-use super::digits::Digits;
+// The lines of an input one after the other: frames by a short way, and every other line by its newline.
+use super::Unfinished;
+use frames::Reading;
 ghost use mathlib.Core.Path.{_≡_};
 ghost use mathlib.Core.List.{_++_};
-ghost use Prim.Native.Nat.{_+_, _*_, _≤_, _<_};
+ghost use Prim.Native.Nat.{_+_, _-_, _*_, _≤_, _<_};
 ghost use lib.ListN.{length, take, drop};
-ghost use Rattle.streaming.specs.Sheet.{hexByte, twoDigits};
-ghost use Rattle.streaming.specs.Pieces.{lineLength};
-ghost use Rattle.verdicts.specs.Inner.{Through, digitTable, lineAt};
+ghost use Rattle.verdicts.specs.Verdict.{verdictOf};
+ghost use Rattle.verdicts.specs.Sheet.{twoDigits};
+ghost use Rattle.verdicts.specs.Kept.{most, keptOf};
+ghost use Rattle.verdicts.specs.Inner.{LineAt, LineEnd, TakesFrom};
+
+// An answer number as two lowercase hexadecimal digits and a newline.
+pub(crate) fn put(out: &mut [u8], at: usize, n: u8)
+    requires { ⌜ at + 3 ≤ length (now out) ⌝ }
+    ensures { λ _. ⌜ now (out .exit) ≡ take at (now (out .entry)) ++ (twoDigits n ++ drop (at + 3) (now (out .entry))) ⌝ }
+{
+    let high = hex::byte(n / 16);
+    let low = hex::byte(n);
+    out[at] = high;
+    out[at + 1] = low;
+    out[at + 2] = b'\n';
+}
+
+// What starts at a place: a frame and its newline, with the number of its verdict, or something else.
+enum Line {
+    Frame(u8),
+    Other,
+}
+
+fn line_at(input: &[u8], from: usize) -> Line
+    requires { ⌜ from + 16 < length (now input) ⌝ }
+    ensures { λ r. ⌜ LineAt (now (input .entry)) from r ⌝ }
+{
+    let stop = from + 16;
+    if input[stop] == b'\n' {
+        if let Reading::Fields(f) = frames::read(&input[from..stop]) {
+            return Line::Frame(super::number(super::judge_frame(f)));
+        }
+    }
+    Line::Other
+}
+
+// How far the input is taken, and how many bytes are written then.
+struct Reached {
+    next: usize,
+    written: usize,
+}
+
+// Takes the frames that stand one after the other from a place on, where no line is begun.
+fn take_frames(state: Unfinished, input: &[u8], from: usize, out: &mut [u8], at: usize) -> Reached
+    requires { ⌜ from ≤ length (now input) ⌝ }
+    requires { ⌜ at + (length (now input) - from) * 3 ≤ length (now out) ⌝ }
+    ensures { λ r. ⌜ TakesFrom state (now (input .entry)) from (r .next) (now (out .entry)) at state (now (out .exit)) (r .written) ⌝ }
+{
+    let mut next = from;
+    let mut written = at;
+    if state.count != 0 {
+        return Reached { next, written };
+    }
+    while input.len() - next > 16 {
+        match line_at(input, next) {
+            Line::Frame(n) => {
+                put(out, written, n);
+                written += 3;
+                next += 17;
+            }
+            Line::Other => {
+                return Reached { next, written };
+            }
+        }
+    }
+    Reached { next, written }
+}
+
+// The number of the verdict on the line that is kept.
+pub(crate) fn kept_number(line: Unfinished) -> u8
+    ensures { λ r. ⌜ r ≡ verdictOf (keptOf line) ⌝ }
+{
+    let bytes = line.bytes;
+    let n = super::least(line.count, 17);
+    super::number(super::judge_line(&bytes[..n]))
+}
 
 // The place of the first newline at or after from, or the input's length.
-pub(crate) fn line_end(input: &[u8], from: usize) -> usize
+fn line_end(input: &[u8], from: usize) -> usize
     requires { ⌜ from ≤ length (now input) ⌝ }
-    ensures { λ r. ⌜ r ≡ from + lineLength (drop from (now (input .entry))) ⌝ }
-    ensures { λ r. ⌜ r ≤ length (now (input .entry)) ⌝ }
+    ensures { λ r. ⌜ LineEnd (now (input .entry)) from r ⌝ }
 {
     let mut i = from;
     while i < input.len() {
@@ -24,79 +97,78 @@ pub(crate) fn line_end(input: &[u8], from: usize) -> usize
     i
 }
 
-// The line at a place: its verdict's number and where the next begins, or that it does not end here.
-pub(crate) enum Line {
-    Ends(u8, usize),
-    Open,
-}
-
-pub(crate) fn line_at(table: &[u8; 256], input: &[u8], from: usize) -> Line
-    requires { ⌜ now table ≡ digitTable ⌝ }
-    requires { ⌜ from ≤ length (now input) ⌝ }
-    ensures { λ r. ⌜ r ≡ lineAt (now (input .entry)) from ⌝ }
+// The state with more bytes of the line.
+fn keep(line: Unfinished, more: &[u8]) -> Unfinished
+    ensures { λ r. ⌜ keptOf r ≡ take most (keptOf line ++ now (more .entry)) ⌝ }
 {
-    let stop = from + 16;
-    if stop < input.len() {
-        if input[stop] == b'\n' {
-            if let Digits::Number(n) = super::digits::number(table, &input[from..stop]) {
-                return Line::Ends(super::number(super::judge_frame(n)), stop + 1);
-            }
+    let mut bytes = line.bytes;
+    let mut count = line.count;
+    let mut i = 0;
+    while i < more.len() {
+        if count > 16 {
+            return Unfinished { bytes, count };
         }
+        bytes[count] = more[i];
+        count += 1;
+        i += 1;
     }
-    let end = line_end(input, from);
-    if end == input.len() {
-        return Line::Open;
-    }
-    Line::Ends(
-        super::number(super::judge_bytes(table, &input[from..end])),
-        end + 1,
-    )
+    Unfinished { bytes, count }
 }
 
-// The lowercase hexadecimal digit of a number.
-fn hex_byte(n: u8) -> u8
-    requires { ⌜ n < 16 ⌝ }
-    ensures { λ r. ⌜ r ≡ hexByte n ⌝ }
-{
-    if n < 10 { b'0' + n } else { b'a' + (n - 10) }
-}
-
-// An answer number as two lowercase hexadecimal digits and a newline.
-pub(crate) fn put(out: &mut [u8], at: usize, n: u8)
-    requires { ⌜ at + 3 ≤ length (now out) ⌝ }
-    ensures { λ _. ⌜ now (out .exit) ≡ take at (now (out .entry)) ++ (twoDigits n ++ drop (at + 3) (now (out .entry))) ⌝ }
-{
-    let high = hex_byte(n / 16);
-    let low = hex_byte(n % 16);
-    out[at] = high;
-    out[at + 1] = low;
-    out[at + 2] = b'\n';
-}
-
-// Where the first line that does not end in the input starts, and how many bytes were written.
-pub(crate) struct Lines {
+// What is done with a part of an input: the state after it, the place behind it, and how many bytes are written then.
+pub(crate) struct Taken {
+    pub(crate) state: Unfinished,
     pub(crate) next: usize,
     pub(crate) written: usize,
 }
 
-pub(crate) fn whole_lines(table: &[u8; 256], input: &[u8], out: &mut [u8]) -> Lines
-    requires { ⌜ now table ≡ digitTable ⌝ }
-    requires { ⌜ length (now input) * 3 ≤ length (now out) ⌝ }
-    ensures { λ r. ⌜ Through (now (input .entry)) (now (out .entry)) (r .next) (r .written) (now (out .exit)) ⌝ }
+// Takes the line at a place, or the rest of one that is begun, as far as the input has it.
+fn take_line(state: Unfinished, input: &[u8], from: usize, out: &mut [u8], at: usize) -> Taken
+    requires { ⌜ from < length (now input) ⌝ }
+    requires { ⌜ at + (length (now input) - from) * 3 ≤ length (now out) ⌝ }
+    ensures { λ r. ⌜ TakesFrom state (now (input .entry)) from (r .next) (now (out .entry)) at (r .state) (now (out .exit)) (r .written) ⌝ }
+    ensures { λ r. ⌜ from < r .next ⌝ }
 {
-    let mut next = 0;
-    let mut written = 0;
-    while next < input.len() {
-        match line_at(table, input, next) {
-            Line::Ends(n, after) => {
-                put(out, written, n);
-                written += 3;
-                next = after;
-            }
-            Line::Open => {
-                return Lines { next, written };
-            }
-        }
+    let end = line_end(input, from);
+    let line = keep(state, &input[from..end]);
+    if end == input.len() {
+        return Taken {
+            state: line,
+            next: end,
+            written: at,
+        };
     }
-    Lines { next, written }
+    let answer = kept_number(line);
+    put(out, at, answer);
+    Taken {
+        state: Unfinished::new(),
+        next: end + 1,
+        written: at + 3,
+    }
+}
+
+// Takes the frames that stand at a place, and then a line.
+pub(crate) fn take_some(
+    state: Unfinished,
+    input: &[u8],
+    from: usize,
+    out: &mut [u8],
+    at: usize,
+) -> Taken
+    requires { ⌜ from < length (now input) ⌝ }
+    requires { ⌜ at + (length (now input) - from) * 3 ≤ length (now out) ⌝ }
+    ensures { λ r. ⌜ TakesFrom state (now (input .entry)) from (r .next) (now (out .entry)) at (r .state) (now (out .exit)) (r .written) ⌝ }
+    ensures { λ r. ⌜ from < r .next ⌝ }
+{
+    let run = take_frames(state, input, from, out, at);
+    let next = run.next;
+    let written = run.written;
+    if next == input.len() {
+        return Taken {
+            state,
+            next,
+            written,
+        };
+    }
+    take_line(state, input, next, out, written)
 }

@@ -5,9 +5,10 @@ use Prim.Native.Nat.{ℕ, zero, suc}
 use native.Mathlib.Omega.{arith}
 use lib.ListN.{length, take}
 use borrow.Author.Needs.{needs}
-use Rattle.streaming.specs.Sheet.{twoDigits}
+use Rattle.hex.specs.Digits.{writtenIn}
+use Rattle.verdicts.specs.Sheet.{twoDigits, reply}
 use Rattle.verdicts.specs.declared.Ending.{Ending}
-use Rattle.verdicts.specs.Kept.{keptOf, reply, endingOf}
+use Rattle.verdicts.specs.Kept.{keptOf, endingOf}
 use Rattle.verdicts.proofs.finish.Statement.{statement}
 use Rattle.verdicts.proofs.finish.Tie as tie
 
@@ -32,7 +33,7 @@ put-requires : tie.Need-put-requires
 put-requires c κs = omega arith
 
 returns-2 : tie.Need-returns-2
-unfolding keptOf twoDigits
+unfolding keptOf twoDigits writtenIn
 returns-2 c =
     let u = c .before .before .before .before .before .before .args .state in
     let e : length (u .bytes) ≡ 17 = search needs in

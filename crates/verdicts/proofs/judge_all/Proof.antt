@@ -1,122 +1,53 @@
--- `verdicts::judge_all` meets its contract.
-use mathlib.Core.Path.{sym}
+-- `verdicts::judge_all` meets its contract. The invariant: what was to be done with the bytes passed is done.
+use mathlib.Core.Path.{_≡_}
+use Prim.Native.Nat.{_-_}
 use native.Mathlib.Omega.{arith}
-use Prim.Native.Nat.{_+_, _-_}
-use lib.ListN.{length, drop, length-take, length-drop}
-use lib.Seq.{length-take-le}
-use Rattle.verdicts.proofs.Piece.{none-ends, some-end}
+use lib.ListN.{length}
 use borrow.Author.Needs.{needs}
+use Rattle.streaming.proofs.Work.{none-from, then-from}
+use Rattle.verdicts.specs.Sheet.{judging}
+use Rattle.verdicts.specs.Kept.{most, keptOf}
+use Rattle.verdicts.specs.Inner.{TakesFrom}
+use Rattle.verdicts.proofs.Piece.{reads, few-written, same-buffer, kept-few, judged}
 use Rattle.verdicts.proofs.judge_all.Statement.{statement}
 use Rattle.verdicts.proofs.judge_all.Tie as tie
 
-line-end-requires : tie.Need-line-end-requires
-line-end-requires c κs = search needs
+abbrev Inv-loop : tie.InvT-loop
+Inv-loop input out₀ state₀ written₀ i₀ out state written i = TakesFrom state₀ input 0 i out₀ 0 state out written
 
-slice-aggregate-keep : tie.Need-slice-aggregate-keep
-slice-aggregate-keep c = sym (length-take-le _ _ (c .before .line-end .ensures .1))
+abbrev μ-loop : tie.MeasureT-loop
+μ-loop input out₀ state₀ written₀ i₀ out state written i = length input - i
 
-keep-requires : tie.Need-keep-requires
-keep-requires c κs = search needs
+loop-holds : tie.Need-loop-holds Inv-loop μ-loop
+loop-holds c =
+    let u = c .before .before .args .start in
+    let e : length (u .bytes) ≡ 17 = search needs in
+    none-from judging most tt (keptOf u) _ 0 (omega arith) (kept-few u e) (omega arith)
 
-returns : tie.Need-returns
-returns c =
-    let a = c .before .before .before .before .before .before .args in
-    none-ends (a .state) (c .before .keep .result) (a .input .now) (a .out .now) (c .before .before .before .line-end .result) (c .before .before .before .line-end .ensures .0) (c .if1 .taken) (c .before .keep .ensures)
+take-some-requires : tie.Need-take-some-requires Inv-loop μ-loop
+take-some-requires c κs = let i = c .before .before .loop .inv in (omega arith, omega (arith, few-written i, same-buffer (omega arith) i))
 
-kept-number-requires : tie.Need-kept-number-requires
-kept-number-requires c κs = search needs
+loop-less : tie.Need-loop-less Inv-loop μ-loop
+loop-less c = let t = c .before .before .before in omega (arith, t .take-some .ensures .0 .within, t .take-some .ensures .1)
 
-put-requires : tie.Need-put-requires
-put-requires c κs = search needs
+loop-again : tie.Need-loop-again Inv-loop μ-loop
+loop-again c = let t = c .before .before .before in then-from judging most (omega arith) reads (omega arith) (t .before .before .before .loop .inv) (t .take-some .ensures .0)
 
-add-rest : tie.Need-add-rest
-add-rest c = search needs
+same-length : tie.Need-same-length Inv-loop μ-loop
+same-length c = same-buffer (omega arith) (c .before .loop .inv)
 
-sub-rest : tie.Need-sub-rest
-sub-rest c = search needs
-
-part-rest-start : tie.Need-part-rest-start
-part-rest-start c = search needs
-
-part-rest-end : tie.Need-part-rest-end
-part-rest-end c = search needs
-
-sub-whole-lines : tie.Need-sub-whole-lines
-sub-whole-lines c = search needs
-
-part-whole-lines-start : tie.Need-part-whole-lines-start
-part-whole-lines-start c = search needs
-
-part-whole-lines-end : tie.Need-part-whole-lines-end
-part-whole-lines-end c = search needs
-
-whole-lines-requires : tie.Need-whole-lines-requires
-whole-lines-requires c κs = search needs
-
-add-written : tie.Need-add-written
-add-written c =
-    let w = c .before .before .before in
-    let l = w .before .before .before .before .before .before .before .before .before .before .before .before .before in
-    let e = l .line-end .result + 1 in
-    let i = l .before .before .before .args .input .now in
-    omega (arith, w .whole-lines .ensures .few, length-take (length i - e) (drop e i), length-drop e i)
-
-new-requires : tie.Need-new-requires
-new-requires c κs = search needs
-
-sub-keep : tie.Need-sub-keep
-sub-keep c = search needs
-
-part-keep-start : tie.Need-part-keep-start
-part-keep-start c = search needs
-
-part-keep-end : tie.Need-part-keep-end
-part-keep-end c = search needs
-
-keep-requires-2 : tie.Need-keep-requires-2
-keep-requires-2 c κs = search needs
-
-same-length : tie.Need-same-length
-same-length c = search needs
-
-returns-2 : tie.Need-returns-2
-returns-2 c =
-    let w = c .before .before .before .before .before .before in
-    let p = w .before .before .before .before .before .before .before in
-    let k = p .before .before .before .before in
-    let l = k .before .before in
-    let a = l .before .before .before .args in
-    some-end (a .state) (k .keep .result) (c .before .before .new .result) (c .keep2 .result) (a .input .now) (a .out .now) (p .put .last .0) (w .whole-lines .last .1 .1 .0) (l .line-end .result) (p .before .before .kept-number .result)
-    (w .whole-lines .result .next) (w .whole-lines .result .written) (l .line-end .ensures .0) (omega (arith, l .line-end .ensures .1)) (omega arith)
-    (k .keep .ensures) (p .before .before .kept-number .ensures) (p .put .ensures) (w .whole-lines .ensures) (c .before .before .new .ensures) (c .keep2 .ensures)
-
-table-requires : tie.Need-table-requires
-table-requires c κs = search needs
+returns : tie.Need-returns Inv-loop μ-loop
+returns c = let l = c .before .loop in judged (l .inv) (omega (arith, l .inv .within)) (omega arith) (omega arith)
 
 pub judge-all-spec : {M : Type 1} → statement M
 judge-all-spec =
     tie.close
     (tie.spec
-    line-end-requires
-    slice-aggregate-keep
-    keep-requires
-    returns
-    kept-number-requires
-    put-requires
-    add-rest
-    sub-rest
-    part-rest-start
-    part-rest-end
-    table-requires
-    sub-whole-lines
-    part-whole-lines-start
-    part-whole-lines-end
-    whole-lines-requires
-    add-written
-    new-requires
-    sub-keep
-    part-keep-start
-    part-keep-end
-    keep-requires-2
+    Inv-loop
+    μ-loop
+    loop-holds
+    take-some-requires
+    loop-less
+    loop-again
     same-length
-    returns-2)
+    returns)

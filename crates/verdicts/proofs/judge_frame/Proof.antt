@@ -1,40 +1,30 @@
--- `verdicts::judge_frame` meets its contract: what date to day answers for the fields, against the frame's day.
+-- `verdicts::judge_frame` meets its contract: what date to day answers for the date, against the frame's day.
 use mathlib.Core.Path.{_≡_, sym, ap, _∙_}
-use mathlib.Core.Bool.{Bool, true, false, cond}
-use Prim.Native.Nat.{ℕ, suc, _-_, _/_, _%_, _<_, _^_}
-use native.Mathlib.Omega.{arith}
-use lib.Dec.{ltb}
-use lib.IntN.{pos, negsuc, _-ℤ_}
-use lib.Signed.{mag}
+use Prim.Native.Nat.{ℕ, _<_}
+use lib.IntN.{pos, _-ℤ_}
 use mir.Syntax.{w64}
-use mir.Val.{SFits, toZ, ofZ}
-use mir.ValLaws.{toZ-ofZ, toZ-pos}
-use borrow.Author.Needs.{needs}
+use mir.Val.{toZ, ofZ}
 use Rattle.calendar_rules.specs.Answers.{dayAnswer}
 use Rattle.calendars.specs.Paper.{dayPaper}
 use Rattle.calendars.specs.declared.Day.{Day}
-use Rattle.verdicts.specs.Verdict.{against}
-use Rattle.verdicts.specs.Inner.{numberVerdict}
+use Rattle.frames.specs.declared.Frame.{Frame}
+use Rattle.frames.proofs.Years.{year-fits, year-read}
+use Rattle.verdicts.specs.Verdict.{against, verdictOn}
 use Rattle.verdicts.proofs.Verdicts.{same-day, other-day, refused}
+use borrow.Author.Needs.{needs}
 use Rattle.verdicts.proofs.judge_frame.Statement.{statement}
 use Rattle.verdicts.proofs.judge_frame.Tie as tie
 
--- a field of 16 bits less another number of 16 bits
-year-small : (n k : ℕ) → n < 65536 → k < 65536 → SFits w64 (pos n -ℤ pos (suc k))
-year-small n k h l = record { sfits = go (ltb n (suc k)) }
-  where
-    go : (c : Bool) → mag (cond c (negsuc (suc k - suc n)) (pos (n - suc k))) < 2 ^ 63
-    go true = omega arith
-    go false = omega arith
+-- what date to day answers, against the frame's day, is the verdict
+judged : (f : Frame) (r : Day) → f .year < 65536 → dayPaper r ≡ dayAnswer (f .calendar) (toZ w64 (ofZ w64 (toZ w64 (f .year) -ℤ pos 4712))) (f .month) (f .day) → verdictOn f ≡ against (dayPaper r) (f .number)
+unfolding verdictOn
+judged f r n h = rw (h, year-read (f .year) n)
 
-field-year : (n : ℕ) → toZ w64 (n / 1099511627776 % 65536) ≡ pos (n / 1099511627776 % 65536)
-field-year n = toZ-pos w64 (n / 1099511627776 % 65536) (omega arith)
+cast-t5 : tie.Need-cast-t5
+cast-t5 c = search needs
 
-cast-year : tie.Need-cast-year
-cast-year c = search needs
-
-sub-t8 : tie.Need-sub-t8
-sub-t8 c = rw (field-year (c .args .n)) (year-small (c .args .n / 1099511627776 % 65536) _ (omega arith) (omega arith))
+sub-t6 : tie.Need-sub-t6
+sub-t6 c = year-fits (c .before .args .f .year) (c .before .pre)
 
 date-to-day-requires : tie.Need-date-to-day-requires
 date-to-day-requires c κs = search needs
@@ -45,34 +35,30 @@ enum-known-day c = search needs
 enum-known-why : tie.Need-enum-known-why
 enum-known-why c = search needs
 
--- what date to day answers, against the frame's day, is the verdict
-judged : (n : ℕ) (r : Day) → dayPaper r ≡ dayAnswer (n / 72057594037927936 % 256) (toZ w64 (ofZ w64 (toZ w64 (n / 1099511627776 % 65536) -ℤ pos 4712))) (n / 4294967296 % 256) (n / 16777216 % 256) → numberVerdict n ≡ against (dayPaper r) (n % 16777216)
-unfolding numberVerdict
-judged n r h =
-    let y : toZ w64 (ofZ w64 (toZ w64 (n / 1099511627776 % 65536) -ℤ pos 4712)) ≡ pos (n / 1099511627776 % 65536) -ℤ pos 4712 = rw (field-year n) (toZ-ofZ w64 (pos (n / 1099511627776 % 65536) -ℤ pos 4712) (year-small (n / 1099511627776 % 65536) 4711 (omega arith) (omega arith))) in
-    rw (h, y)
-
 returns : tie.Need-returns
 returns c =
-    let s = c .before .before .before in
-    sym (judged (s .before .before .args .n) (s .before .date-to-day .result) (s .before .date-to-day .ensures) ∙ ap (λ (r : Day). against (dayPaper r) (s .before .before .args .n % 16777216)) (c .before .before .day .given .1) ∙ ap (λ (d : ℕ). against (record { number = 0; day = d }) (s .before .before .args .n % 16777216)) (c .if1 .taken) ∙ same-day (s .before .before .args .n % 16777216))
+    let s = c .before .before .before .before in
+    let f = s .before .before .before .args .f in
+    sym (judged f (s .before .date-to-day .result) (s .before .before .before .pre) (s .before .date-to-day .ensures) ∙ ap (λ (r : Day). against (dayPaper r) (f .number)) (c .before .before .before .day .given .1) ∙ ap (λ (d : ℕ). against (record { number = 0; day = d }) (f .number)) (c .if1 .taken) ∙ same-day (f .number))
 
 returns-2 : tie.Need-returns-2
 returns-2 c =
-    let s = c .before .before .before in
-    sym (judged (s .before .before .args .n) (s .before .date-to-day .result) (s .before .date-to-day .ensures) ∙ ap (λ (r : Day). against (dayPaper r) (s .before .before .args .n % 16777216)) (c .before .before .day .given .1) ∙ other-day _ _ (c .if1 .left))
+    let s = c .before .before .before .before in
+    let f = s .before .before .before .args .f in
+    sym (judged f (s .before .date-to-day .result) (s .before .before .before .pre) (s .before .date-to-day .ensures) ∙ ap (λ (r : Day). against (dayPaper r) (f .number)) (c .before .before .before .day .given .1) ∙ other-day _ _ (c .if1 .left))
 
 returns-3 : tie.Need-returns-3
 returns-3 c =
     let s = c .before .before in
-    sym (judged (s .before .before .args .n) (s .before .date-to-day .result) (s .before .date-to-day .ensures) ∙ ap (λ (r : Day). against (dayPaper r) (s .before .before .args .n % 16777216)) (c .before .why .given .1) ∙ refused (c .before .why .given .0 .0) (s .before .before .args .n % 16777216))
+    let f = s .before .before .before .args .f in
+    sym (judged f (s .before .date-to-day .result) (s .before .before .before .pre) (s .before .date-to-day .ensures) ∙ ap (λ (r : Day). against (dayPaper r) (f .number)) (c .before .why .given .1) ∙ refused (c .before .why .given .0 .0) (f .number))
 
 pub judge-frame-spec : {M : Type 1} → statement M
 judge-frame-spec =
     tie.close
     (tie.spec
-    cast-year
-    sub-t8
+    cast-t5
+    sub-t6
     date-to-day-requires
     enum-known-day
     enum-known-why

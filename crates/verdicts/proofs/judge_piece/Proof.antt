@@ -1,8 +1,8 @@
 -- `verdicts::judge_piece` meets its contract.
-use mathlib.Core.Path.{sym, subst}
-use Prim.Native.Nat.{ℕ}
+use mathlib.Core.Path.{_≡_, sym, subst}
+use Prim.Native.Nat.{ℕ, _/_, min}
 use native.Mathlib.Omega.{arith}
-use lib.ListN.{take}
+use lib.ListN.{length, take}
 use lib.Seq.{length-take-le}
 use Rattle.verdicts.specs.Kept.{Judged}
 use borrow.Author.Needs.{needs}
@@ -23,8 +23,11 @@ same-length c = search needs
 
 returns : tie.Need-returns
 returns c =
-    let a = c .before .before .before .before .before .before .before .before .args in
-    subst (λ (k : ℕ). Judged (a .state) (take k (a .piece .now)) (a .out .now) (c .before .before .judge-all .result) (c .before .before .judge-all .last .1 .1 .0)) (c .before .before .before .before .before .least .ensures) (c .before .before .judge-all .ensures)
+    let r = c .before .before in
+    let l = r .before .before .before in
+    let a = l .before .before .before .args in
+    let k : l .least .result ≡ min (length (a .piece .now)) (length (a .out .now) / 3) = omega (arith, l .least .ensures) in
+    subst (λ (n : ℕ). Judged (a .state) (take n (a .piece .now)) (a .out .now) (r .judge-all .result) (r .judge-all .last .1 .1 .0)) k (r .judge-all .ensures)
 
 pub judge-piece-spec : {M : Type 1} → statement M
 judge-piece-spec =

@@ -7,15 +7,16 @@ use native.Mathlib.Numerals.{add-one, add-two}
 use lib.ListN.{set, length, take, drop, length-set}
 use lib.Seq.{sets-eq}
 use borrow.Author.Needs.{needs}
-use Rattle.streaming.specs.Sheet.{hexByte, twoDigits}
+use Rattle.verdicts.specs.Sheet.{twoDigits}
+use Rattle.hex.specs.Digits.{hexByte, writtenIn}
 use Rattle.verdicts.proofs.lines.put.Statement.{statement}
 use Rattle.verdicts.proofs.lines.put.Tie as tie
 
-hex-byte-requires : tie.Need-hex-byte-requires
-hex-byte-requires c κs = search needs
+byte-requires : tie.Need-byte-requires
+byte-requires c κs = search needs
 
-hex-byte-requires-2 : tie.Need-hex-byte-requires-2
-hex-byte-requires-2 c κs = search needs
+byte-requires-2 : tie.Need-byte-requires-2
+byte-requires-2 c κs = search needs
 
 slice-write-out : tie.Need-slice-write-out
 slice-write-out c = search needs
@@ -40,17 +41,17 @@ three : (l : List ℕ) (at a b x : ℕ) → at + 3 ≤ length l → set (set (se
 three l at a b x h = rw (add-one, add-two) (sets-eq (a ∷ b ∷ x ∷ []) l at h ∙ append-assoc (take at l) (a ∷ b ∷ x ∷ []) (drop (at + 3) l))
 
 returns : tie.Need-returns
-unfolding twoDigits
+unfolding twoDigits writtenIn
 returns c =
     let a = c .before .before .before .args in
-    rw (c .before .hex-byte .ensures, c .hex-byte2 .ensures) (three (a .out .now) (a .at) (hexByte (a .n / 16)) (hexByte (a .n % 16)) 10 (omega arith))
+    rw (c .before .byte .ensures, c .byte2 .ensures) (three (a .out .now) (a .at) (hexByte (a .n / 16 % 16)) (hexByte (a .n % 16)) 10 (omega arith))
 
 pub put-spec : {M : Type 1} → statement M
 put-spec =
     tie.close
     (tie.spec
-    hex-byte-requires
-    hex-byte-requires-2
+    byte-requires
+    byte-requires-2
     slice-write-out
     add-out
     slice-write-out-2
