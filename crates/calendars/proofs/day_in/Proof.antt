@@ -5,7 +5,6 @@ use native.Mathlib.Omega.{arith}
 use borrow.Author.Tests.{lt-ltb, le-ltb, ltb-false, eqb-false}
 use Rattle.counting.specs.Answers.{lastDay}
 use Rattle.basics.proofs.Cases.{neither}
-use borrow.Author.Needs.{needs}
 use Rattle.calendars.proofs.day_in.Statement.{statement}
 use Rattle.calendars.proofs.day_in.Tie as tie
 
