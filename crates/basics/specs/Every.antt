@@ -1,4 +1,4 @@
--- A test of each number below a bound, computed.
+-- For code and proofs: nobody has to believe this page. A test of each number below a bound, computed.
 use mathlib.Core.Bool.{Bool, true, _&&_}
 use Prim.Native.Nat.{ℕ, zero, suc}
 
