@@ -135,31 +135,26 @@ module _ (code : List ℕ) where
       slope : {a b r : ℕ} → Best code (natural a b r) → a ≡ sumTo code b
       slope x = slope-is (band x) (omega (arith, x .low)) (short w x)
 
-  -- the answer, read off what holds of the code
+  -- so what holds of the code leaves one answer
+  one-answer : {o u : Answer} → Fit code o → Fit code u → o ≡ u
+  one-answer (outside e _) (outside f _) = e ∙ sym f
+  one-answer (outside _ h) (lineless _ w _) = absurd (h w)
+  one-answer (outside _ h) (best _ _ _ _ w _ _) = absurd (h w)
+  one-answer (lineless _ w _) (outside _ h) = absurd (h w)
+  one-answer (lineless e _ _) (lineless f _ _) = e ∙ sym f
+  one-answer (lineless _ _ h) (best _ _ _ _ _ x _) = absurd (h _ (x .generates))
+  one-answer (best _ _ _ _ w _ _) (outside _ h) = absurd (h w)
+  one-answer (best _ _ _ _ _ x _) (lineless _ _ h) = absurd (h _ (x .generates))
+  one-answer (best _ _ _ e w x _) (best _ _ _ f _ y _) = e ∙ best-unique w x y ∙ sym f
 
   pub fit-best : {a b r : ℕ} → Within code → Best code (natural a b r) → fitOf code ≡ line a b r
-  fit-best {a} {b} {r} w x = go fit
-    where
-      go : Fit code (fitOf code) → fitOf code ≡ line a b r
-      go (outside e h) = absurd (h w)
-      go (lineless e v h) = absurd (h _ (x .generates))
-      go (best _ _ _ e v y s) = e ∙ best-unique w y x
+  fit-best w x = one-answer fit (best _ _ _ refl w x (short w x))
 
   pub fit-none : Within code → NoLine code → fitOf code ≡ refused 7
-  fit-none w h = go fit
-    where
-      go : Fit code (fitOf code) → fitOf code ≡ refused 7
-      go (outside e k) = absurd (k w)
-      go (lineless e v k) = e
-      go (best a b r e v y s) = absurd (h _ (y .generates))
+  fit-none w h = one-answer fit (lineless refl w h)
 
   pub fit-outside : (¬ Within code) → fitOf code ≡ refused 6
-  fit-outside h = go fit
-    where
-      go : Fit code (fitOf code) → fitOf code ≡ refused 6
-      go (outside e k) = e
-      go (lineless e v k) = absurd (h v)
-      go (best a b r e v y s) = absurd (h v)
+  fit-outside h = one-answer fit (outside refl h)
 
   -- and what holds of the code, read off the answer
 
@@ -208,12 +203,7 @@ module _ (code : List ℕ) where
   pub fit-hit : (b : ℕ) → Within code → 0 < b → b ≤ length code → passes code b ≡ true → ((k : ℕ) → 0 < k → k < b → passes code k ≡ false)
       → fitOf code ≡ line (sumTo code b) b (offsetOf code b)
   unfolding Found answerOf
-  fit-hit b w h l t u = go (found-fit w (length code) refl (some b) (h, omega arith, t, u))
-    where
-      go : Fit code (line (sumTo code b) b (offsetOf code b)) → fitOf code ≡ line (sumTo code b) b (offsetOf code b)
-      go (outside f _) = absurd (omega (arith, numbers f))
-      go (lineless f _ _) = absurd (omega (arith, numbers f))
-      go (best c d s f v x _) = fit-best w x ∙ sym f
+  fit-hit b w h l t u = one-answer fit (found-fit w (length code) refl (some b) (h, omega arith, t, u))
 
   pub fit-miss : Within code → ((k : ℕ) → 0 < k → k ≤ length code → passes code k ≡ false) → fitOf code ≡ refused 7
   fit-miss w u = fit-none w (none-passes (not-empty w) u)
