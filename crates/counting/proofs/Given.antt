@@ -88,6 +88,7 @@ module _ (K : Calendar) (n : ℕ) where
 -- ---- date to day, and the length of a position
 
 module _ (K : Calendar) (y : ℤ) (m d : ℕ) where
+  -- each test holds exactly where its number applies
   is-2 : yearOut K y ≡ true → OfDate K y m d 2
   is-2 e = either (ltZ y (K .firstYear)) (ltZ lastYear y) e below-first above-20000
 
