@@ -2,20 +2,12 @@
 use lib.IntN.{pos}
 use Rattle.refusals.specs.Number.{numberOf}
 use Rattle.counting.specs.Answers.{DayAnswer, DateAnswer, LengthAnswer}
-use Rattle.calendars.specs.Parts.{MonthAnswer}
-use Rattle.calendars.specs.declared.Sought.{Sought}
-use Rattle.calendars.specs.declared.Sought.the-variants as S
 use Rattle.calendars.specs.declared.Day.{Day}
 use Rattle.calendars.specs.declared.Day.the-variants as N
 use Rattle.calendars.specs.declared.Dated.{Dated}
 use Rattle.calendars.specs.declared.Dated.the-variants as D
 use Rattle.calendars.specs.declared.Length.{Length}
 use Rattle.calendars.specs.declared.Length.the-variants as L
-
--- the same of a position that was sought
-abbrev pub monthPaper : Sought → MonthAnswer
-monthPaper (S.At m) = record { number = 0; start = m .start; days = m .days }
-monthPaper (S.Refused why) = record { number = numberOf why; start = 0; days = 0 }
 
 abbrev pub dayPaper : Day → DayAnswer
 dayPaper (N.Number n) = record { number = 0; day = n }

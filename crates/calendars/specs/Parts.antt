@@ -1,5 +1,5 @@
--- The answers in two steps, as the code takes them: the position of a year, and then the day in it. `first` is a calendar's first year, `day` its first day,
--- `L` its years from the first.
+-- For code: the answers in two steps, the position of a year and then the day in it. Nobody has to believe this page. `first` is a calendar's first year, `day`
+-- its first day, `L` its years from the first.
 use Prim.Native.Nat.{ℕ, _+_, _-_}
 use mathlib.Core.Bool.{cond, _||_}
 use mathlib.Core.List.{List}
@@ -13,6 +13,9 @@ use Rattle.counting.specs.Years.{yearAt, yearsFrom}
 use Rattle.counting.specs.Answers.{years, DayAnswer, noDayAnswer, DateAnswer, noDateAnswer, lastYear, lastDay}
 use Rattle.calendar_rules.specs.Calendars.{calendar}
 use Rattle.calendar_rules.specs.Answers.{ofListed}
+use Rattle.refusals.specs.Number.{numberOf}
+use Rattle.calendars.specs.declared.Sought.{Sought}
+use Rattle.calendars.specs.declared.Sought.the-variants as S
 
 -- a position: the day that it begins on, and its length
 pub record MonthAnswer : Type 0 where
@@ -22,6 +25,10 @@ pub record MonthAnswer : Type 0 where
 
 abbrev pub noMonthAnswer : ℕ → MonthAnswer
 noMonthAnswer k = record { number = k; start = 0; days = 0 }
+
+abbrev pub monthPaper : Sought → MonthAnswer
+monthPaper (S.At m) = record { number = 0; start = m .start; days = m .days }
+monthPaper (S.Refused why) = noMonthAnswer (numberOf why)
 
 -- position m of the year that is i years after the first
 abbrev pub monthIn : ℕ → (ℕ → List ℕ) → ℕ → ℕ → MonthAnswer

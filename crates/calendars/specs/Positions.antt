@@ -1,4 +1,4 @@
--- A day of a year and its position, both counted from 0.
+-- For code: a day of a year and its position, both counted from 0. Nobody has to believe this page.
 use Prim.Native.Nat.{ℕ, suc, _+_, _≤_, _<_}
 use Rattle.calendar_rules.specs.Shapes.{before, places}
 

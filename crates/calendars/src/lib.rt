@@ -9,8 +9,8 @@ mod years;
 ghost use mathlib.Core.Path.{_≡_};
 ghost use Prim.Native.Nat.{_≤_};
 ghost use Rattle.calendar_rules.specs.Answers.{dayAnswer, dateAnswer, lengthAnswer};
-ghost use Rattle.calendars.specs.Paper.{dayPaper, datePaper, lengthPaper, monthPaper};
-ghost use Rattle.calendars.specs.Parts.{monthIn, monthBy, monthAnswer, dayIn, DateIs, dateBy};
+ghost use Rattle.calendars.specs.Paper.{dayPaper, datePaper, lengthPaper};
+ghost use Rattle.calendars.specs.Parts.{monthPaper, monthIn, monthBy, monthAnswer, dayIn, DateIs, dateBy};
 ghost use Rattle.rows.specs.Rows.{yearsOf, Proper};
 
 // A date. Years are signed, and year 0 exists; months and days are counted from 1.

@@ -1,4 +1,4 @@
--- The year of a day, as it is found.
+-- For code: the year of a day, as it is found. Nobody has to believe this page.
 use Prim.Native.Nat.{ℕ}
 use mathlib.Core.List.{List}
 use Rattle.counting.specs.InYear.{InYear}

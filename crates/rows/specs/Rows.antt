@@ -1,4 +1,5 @@
--- A row of the code: the years that its leap rule and its common shape give, the bounds that code needs, and the calendar that it is.
+-- For code: a row, the years that its leap rule and its common shape give, the bounds that code needs, and the calendar that it is. Nobody has to believe
+-- this page.
 use Prim.Native.Nat.{ℕ, _≤_, _<_}
 use mathlib.Core.Path.{_≡_}
 use mathlib.Core.List.{List}
