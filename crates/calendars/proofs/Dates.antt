@@ -42,7 +42,8 @@ module _ {L : ℕ → List ℕ} {a n i from s : ℕ} (f : FoundIs L a n i from s
       let b = rest-below in
       let e : p + 1 - 1 ≡ p = omega arith in
       let l : getD (L i) p 0 ≡ getD (shape s) p 0 = ap (λ (ls : List ℕ). getD ls p 0) (f .year .lengths) in
-      let v : Valid L D = record { month-from-1 = omega arith; day-from-1 = omega arith; day-in-month = rw e (omega (arith, l, before-next s p, q .still, q .begun)) } in
+      let v : Valid L D = record
+      { month-from-1 = omega arith; day-from-1 = omega arith; day-in-month = rw e (omega (arith, l, before-next s p, q .still, q .begun)) } in
       date-is L (has-days h) n D v (rw e (omega (arith, before-is (f .year) p, q .begun, f .year .begins)))
 
   -- the same, as counting says it

@@ -44,7 +44,8 @@ module _ (s day : ℕ) (hs : s < 21) (hd : day < total (shape s)) where
   pub step-inside : (p r : ℕ) → Near s day p → r ≡ cond (leb (before s (suc p)) day) (suc p) p → r < places s
   step-inside p r n e = within p r (n .inside) (stepped s day p r e)
 
-  pub two-steps : (p q r : ℕ) → Near s day p → q ≡ cond (leb (before s (suc p)) day) (suc p) p → r ≡ cond (leb (before s (suc q)) day) (suc q) q → InPosition s day r
+  pub two-steps : (p q r : ℕ) → Near s day p → q ≡ cond (leb (before s (suc p)) day) (suc p) p → r ≡ cond (leb (before s (suc q)) day) (suc q) q
+      → InPosition s day r
   two-steps p q r n e f = go (stepped s day p q e) (stepped s day q r f)
     where
       q-in : q < places s
@@ -59,4 +60,5 @@ module _ (s day : ℕ) (hs : s < 21) (hd : day < total (shape s)) where
           record { begun = omega (arith, b, ap (before s) y); still = omega (arith, n .high, ap (before s) z); inside = r-in }
       go (on a x) (stay b y) = record { begun = omega (arith, a, ap (before s) (y ∙ x)); still = omega (arith, b, ap (before s) (ap suc y)); inside = r-in }
       go (stay a x) (on b y) = absurd (omega (arith, a, b, ap (before s) (ap suc x)))
-      go (stay a x) (stay b y) = record { begun = omega (arith, n .low, ap (before s) (y ∙ x)); still = omega (arith, b, ap (before s) (ap suc y)); inside = r-in }
+      go (stay a x) (stay b y) =
+          record { begun = omega (arith, n .low, ap (before s) (y ∙ x)); still = omega (arith, b, ap (before s) (ap suc y)); inside = r-in }

@@ -8,4 +8,6 @@ use Rattle.hebrew.specs.Hebrew.{fourthApplies}
 
 pub gate : (w : ℕ) → w < 9 → (eqb w 6 || eqb w 2 || eqb w 4) ≡ fourthApplies (w % 7)
 unfolding fourthApplies
-gate = each 9 (λ w. (eqb w 6 || eqb w 2 || eqb w 4) ≡ (eqb (w % 7) 6 || eqb (w % 7) 2 || eqb (w % 7) 4)) (refl and refl and refl and refl and refl and refl and refl and refl and refl and tt)
+gate =
+    each 9 (λ w. (eqb w 6 || eqb w 2 || eqb w 4) ≡ (eqb (w % 7) 6 || eqb (w % 7) 2 || eqb (w % 7) 4))
+    (refl and refl and refl and refl and refl and refl and refl and refl and refl and tt)

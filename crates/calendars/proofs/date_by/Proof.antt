@@ -13,7 +13,10 @@ returns c = rw (lt-ltb lastDay (c .before .args .day) (omega (arith, c .if1 .tak
 returns-2 : tie.Need-returns-2
 returns-2 c =
     let s = c .before .before .before in
-    rw (le-ltb lastDay (s .args .day) (omega (arith, c .before .before .if1 .left)), lt-ltb (s .args .day) (s .args .row .day) (omega (arith, c .if2 .taken))) refl
+    rw (
+      le-ltb lastDay (s .args .day) (omega (arith, c .before .before .if1 .left)),
+      lt-ltb (s .args .day) (s .args .row .day) (omega (arith, c .if2 .taken)),
+    ) refl
 
 date-of-requires : tie.Need-date-of-requires
 date-of-requires c κs = search needs

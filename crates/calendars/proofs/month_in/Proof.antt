@@ -48,7 +48,8 @@ days-before-requires c κs =
     let l = c .before .before .before in
     let y = l .before .before in
     let s = y .before .before in
-    let m = in-places (y .year-at .result .shape) (s .args .month) (y .year-at .ensures .kin .small) (omega (arith, y .before .if1 .left)) (λ e. c .before .before .if2 .left (l .length-at .ensures ∙ e)) in
+    let m = in-places (y .year-at .result .shape) (s .args .month) (y .year-at .ensures .kin .small) (omega (arith, y .before .if1 .left))
+    (λ e. c .before .before .if2 .left (l .length-at .ensures ∙ e)) in
     (l .before .totals-of .ensures, omega arith)
 
 add-start-2 : tie.Need-add-start-2
@@ -56,7 +57,15 @@ add-start-2 c =
     let y = c .before .before .before .before .before .before in
     let s = y .before .before in
     let p = s .pre .0 in
-    omega (arith, p .first-day, y .year-at .ensures .begins, start-within (shaped (s .args .row) p) (s .args .i), s .pre .1, c .days-before .ensures, before-small (y .year-at .result .shape) (s .args .month - 1) (y .year-at .ensures .kin .small))
+    omega (
+      arith,
+      p .first-day,
+      y .year-at .ensures .begins,
+      start-within (shaped (s .args .row) p) (s .args .i),
+      s .pre .1,
+      c .days-before .ensures,
+      before-small (y .year-at .result .shape) (s .args .month - 1) (y .year-at .ensures .kin .small),
+    )
 
 returns-3 : tie.Need-returns-3
 returns-3 c =

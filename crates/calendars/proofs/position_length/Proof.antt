@@ -22,10 +22,16 @@ enum-known-sought-2 : tie.Need-enum-known-sought-2
 enum-known-sought-2 c = search needs
 
 returns : tie.Need-returns
-returns c = let s = c .before .before .before .before in length-there (s .args .calendar) (s .args .year) (s .args .position) _ _ (ap monthPaper (sym (c .before .sought .given .1)) ∙ answered (c .before .before .before))
+returns c =
+    let s = c .before .before .before .before in
+    length-there (s .args .calendar) (s .args .year) (s .args .position) _ _
+    (ap monthPaper (sym (c .before .sought .given .1)) ∙ answered (c .before .before .before))
 
 returns-2 : tie.Need-returns-2
-returns-2 c = let s = c .before .before .before .before in length-refused (s .args .calendar) (s .args .year) (s .args .position) (c .before .sought2 .given .0 .0) (ap monthPaper (sym (c .before .sought2 .given .1)) ∙ answered (c .before .before .before))
+returns-2 c =
+    let s = c .before .before .before .before in
+    length-refused (s .args .calendar) (s .args .year) (s .args .position) (c .before .sought2 .given .0 .0)
+    (ap monthPaper (sym (c .before .sought2 .given .1)) ∙ answered (c .before .before .before))
 
 pub position-length-spec : {M : Type 1} → statement M
 position-length-spec =

@@ -21,7 +21,8 @@ sub-t7 c = let s = c .before in omega (arith, long (s .args .y) (s .pre .0) (ome
 returns : tie.Need-returns
 returns c =
     let s = c .before in
-    let e : s .args .next - s .args .this - 365 ≡ 15 + (newYear (s .args .y + 1) - newYear (s .args .y) - 380) = omega (arith, long (s .args .y) (s .pre .0) (omega arith)) in
+    let e : s .args .next - s .args .this - 365 ≡ 15 + (newYear (s .args .y + 1) - newYear (s .args .y) - 380) = omega
+    (arith, long (s .args .y) (s .pre .0) (omega arith)) in
     rw (e, s .pre .1) (hebrew-leap (s .args .y) (s .pre .0) (omega arith))
 
 sub-t8 : tie.Need-sub-t8
@@ -30,7 +31,8 @@ sub-t8 c = let s = c .before in omega (arith, grows (s .args .y) (s .pre .0))
 returns-2 : tie.Need-returns-2
 returns-2 c =
     let s = c .before in
-    let e : s .args .next - s .args .this - 338 ≡ 15 + (newYear (s .args .y + 1) - newYear (s .args .y) - 353) = omega (arith, grows (s .args .y) (s .pre .0)) in
+    let e : s .args .next - s .args .this - 338 ≡ 15 + (newYear (s .args .y + 1) - newYear (s .args .y) - 353) = omega
+    (arith, grows (s .args .y) (s .pre .0)) in
     rw (e, s .pre .1) (hebrew-common (s .args .y) (s .pre .0) (omega arith))
 
 pub between-spec : {M : Type 1} → statement M

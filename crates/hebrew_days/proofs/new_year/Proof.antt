@@ -38,7 +38,8 @@ returns : tie.Need-returns
 unfolding newYear moonDay moonHour
 returns c =
     let s = c .before .before in
-    rw (leap-left (s .args .y) (s .pre .0), before-left (s .args .y) (s .pre .0), moon-closed (s .args .y) (s .pre .0)) (c .fourth-day .ensures ∙ ap fourth (c .before .moved-by .ensures .0))
+    rw (leap-left (s .args .y) (s .pre .0), before-left (s .args .y) (s .pre .0), moon-closed (s .args .y) (s .pre .0))
+    (c .fourth-day .ensures ∙ ap fourth (c .before .moved-by .ensures .0))
 
 pub new-year-spec : {M : Type 1} → statement M
 new-year-spec =

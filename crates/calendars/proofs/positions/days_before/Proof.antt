@@ -19,25 +19,36 @@ add-result : tie.Need-add-result
 add-result c = let s = c .before .before .before in omega (arith, line-small (s .args .s) (s .args .p) (s .args .t .base) (s .pre .0 .base-is) (s .pre .1))
 
 returns : tie.Need-returns
-returns c = let s = c .before .before .before in byte-in (s .args .s) (s .args .p) 0 (s .args .t .base) (s .args .t .low) (s .pre .0 .small) (s .pre .1) (s .pre .0 .base-is) (s .pre .0 .low-is) (omega arith)
+returns c =
+    let s = c .before .before .before in
+    byte-in (s .args .s) (s .args .p) 0 (s .args .t .base) (s .args .t .low) (s .pre .0 .small) (s .pre .1) (s .pre .0 .base-is) (s .pre .0 .low-is)
+    (omega arith)
 
 shr-result-2 : tie.Need-shr-result-2
 shr-result-2 c = search needs
 
 add-result-2 : tie.Need-add-result-2
-add-result-2 c = let s = c .before .before .before .before in omega (arith, line-small (s .args .s) (s .args .p) (s .args .t .base) (s .pre .0 .base-is) (s .pre .1))
+add-result-2 c =
+    let s = c .before .before .before .before in omega (arith, line-small (s .args .s) (s .args .p) (s .args .t .base) (s .pre .0 .base-is) (s .pre .1))
 
 returns-2 : tie.Need-returns-2
-returns-2 c = let s = c .before .before .before .before in byte-in (s .args .s) (s .args .p) 1 (s .args .t .base) (s .args .t .mid) (s .pre .0 .small) (s .pre .1) (s .pre .0 .base-is) (s .pre .0 .mid-is) (omega arith)
+returns-2 c =
+    let s = c .before .before .before .before in
+    byte-in (s .args .s) (s .args .p) 1 (s .args .t .base) (s .args .t .mid) (s .pre .0 .small) (s .pre .1) (s .pre .0 .base-is) (s .pre .0 .mid-is)
+    (omega arith)
 
 shr-result-3 : tie.Need-shr-result-3
 shr-result-3 c = search needs
 
 add-result-3 : tie.Need-add-result-3
-add-result-3 c = let s = c .before .before .before .before in omega (arith, line-small (s .args .s) (s .args .p) (s .args .t .base) (s .pre .0 .base-is) (s .pre .1))
+add-result-3 c =
+    let s = c .before .before .before .before in omega (arith, line-small (s .args .s) (s .args .p) (s .args .t .base) (s .pre .0 .base-is) (s .pre .1))
 
 returns-3 : tie.Need-returns-3
-returns-3 c = let s = c .before .before .before .before in byte-in (s .args .s) (s .args .p) 2 (s .args .t .base) (s .args .t .high) (s .pre .0 .small) (s .pre .1) (s .pre .0 .base-is) (s .pre .0 .high-is) (omega (arith, places-small (s .args .s)))
+returns-3 c =
+    let s = c .before .before .before .before in
+    byte-in (s .args .s) (s .args .p) 2 (s .args .t .base) (s .args .t .high) (s .pre .0 .small) (s .pre .1) (s .pre .0 .base-is) (s .pre .0 .high-is)
+    (omega (arith, places-small (s .args .s)))
 
 pub days-before-spec : {M : Type 1} → statement M
 days-before-spec =

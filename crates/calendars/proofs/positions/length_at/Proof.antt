@@ -16,7 +16,9 @@ places-of-requires : tie.Need-places-of-requires
 places-of-requires c κs = search needs
 
 returns : tie.Need-returns
-returns c = let s = c .before .before in sym (List·getD-eq-default (shape (s .args .s)) 0 {n = s .args .position - 1} (omega (arith, few (s .args .s) (s .pre .0 .small), c .before .places-of .ensures, c .if1 .taken)))
+returns c =
+    let s = c .before .before in
+    sym (List·getD-eq-default (shape (s .args .s)) 0 {n = s .args .position - 1} (omega (arith, few (s .args .s) (s .pre .0 .small), c .before .places-of .ensures, c .if1 .taken)))
 
 sub-month-days : tie.Need-sub-month-days
 sub-month-days c = search needs
@@ -25,7 +27,9 @@ month-days-requires : tie.Need-month-days-requires
 month-days-requires c κs = search needs
 
 returns-2 : tie.Need-returns-2
-returns-2 c = let s = c .before .before .before .before in c .month-days .ensures ∙ ap (λ (ls : List ℕ). len ls (s .args .position)) (sym (kind-of-shape (s .args .s) (omega arith) (s .pre .0 .small)))
+returns-2 c =
+    let s = c .before .before .before .before in
+    c .month-days .ensures ∙ ap (λ (ls : List ℕ). len ls (s .args .position)) (sym (kind-of-shape (s .args .s) (omega arith) (s .pre .0 .small)))
 
 days-before-requires : tie.Need-days-before-requires
 days-before-requires c κs = search needs
@@ -37,7 +41,9 @@ days-before-requires-2 : tie.Need-days-before-requires-2
 days-before-requires-2 c κs = search needs
 
 sub-result : tie.Need-sub-result
-sub-result c = let s = c .before .before .before .before .before in omega (arith, c .days-before2 .ensures, c .before .days-before .ensures, before-mono (s .args .s) (s .args .position - 1) (s .args .position) (omega arith))
+sub-result c =
+    let s = c .before .before .before .before .before in
+    omega (arith, c .days-before2 .ensures, c .before .days-before .ensures, before-mono (s .args .s) (s .args .position - 1) (s .args .position) (omega arith))
 
 returns-3 : tie.Need-returns-3
 returns-3 c =

@@ -20,10 +20,14 @@ add-result : tie.Need-add-result
 add-result c = let s = c .before .before in omega (arith, places-small (s .args .s), s .pre .1)
 
 returns : tie.Need-returns
-returns c = let s = c .before .before in rw (le-leb (before (s .args .s) (suc (s .args .p))) (s .args .day) (omega (arith, c .before .days-before .ensures, ap (before (s .args .s)) (add-one (s .args .p))))) (add-one (s .args .p))
+returns c =
+    let s = c .before .before in
+    rw (le-leb (before (s .args .s) (suc (s .args .p))) (s .args .day) (omega (arith, c .before .days-before .ensures, ap (before (s .args .s)) (add-one (s .args .p))))) (add-one (s .args .p))
 
 returns-2 : tie.Need-returns-2
-returns-2 c = let s = c .before .before in rw (lt-leb (before (s .args .s) (suc (s .args .p))) (s .args .day) (omega (arith, c .before .days-before .ensures, ap (before (s .args .s)) (add-one (s .args .p))))) refl
+returns-2 c =
+    let s = c .before .before in
+    rw (lt-leb (before (s .args .s) (suc (s .args .p))) (s .args .day) (omega (arith, c .before .days-before .ensures, ap (before (s .args .s)) (add-one (s .args .p))))) refl
 
 pub step-spec : {M : Type 1} → statement M
 step-spec = tie.close (tie.spec add-days-before days-before-requires add-result returns returns-2)
