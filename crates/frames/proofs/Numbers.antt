@@ -21,6 +21,13 @@ pub record Narrow (f : Frame) : Type 0 where
   pub day : f .day < 16 ^ 2
   pub number : f .number < 16 ^ 6
 
+-- a frame by its fields
+abbrev frame : ℕ → ℕ → ℕ → ℕ → ℕ → Frame
+frame c y m d n = record { calendar = c; year = y; month = m; day = d; number = n }
+
+pub same-frame : {c y m d n c′ y′ m′ d′ n′ : ℕ} → c ≡ c′ → y ≡ y′ → m ≡ m′ → d ≡ d′ → n ≡ n′ → frame c y m d n ≡ frame c′ y′ m′ d′ n′
+same-frame ec ey em ed en = cc
+
 -- the fields of a frame, out of the number that its digits write
 pub fields-parts : (line : List ℕ) → sixteenDigits line ≡ true → fieldsOf line ≡ partsOf (numberIn line)
 unfolding fieldsOf

@@ -20,7 +20,7 @@ use Rattle.verdicts.specs.declared.Unfinished.{Unfinished}
 use Rattle.verdicts.specs.Verdict.{verdictOf}
 use Rattle.verdicts.specs.Sheet.{twoDigits, judging}
 use Rattle.verdicts.specs.Kept.{most, keptOf, taken, Judged, endingOf}
-use Rattle.verdicts.specs.Inner.{FrameAt, LineEnd, TakesFrom}
+use Rattle.verdicts.specs.Inner.{FrameAt, LineEnd, Put, TakesFrom}
 use Rattle.verdicts.proofs.Verdicts.{first-bytes}
 
 -- ---- replies
@@ -44,21 +44,23 @@ same-buffer h w = same-size (w .work) (omega (arith, few-written w, w .on, w .wi
 
 -- ---- what is taken
 
--- the reply behind what was written
-in-place : {out′ : List ℕ} {v x : ℕ} (at : ℕ) (out : List ℕ) (at′ : ℕ) → at′ ≡ at + 3 → v ≡ x → out′ ≡ take at out ++ (twoDigits v ++ drop (at + 3) out) → out′ ≡ take at out ++ (twoDigits x ++ drop at′ out)
-in-place at out at′ i w o = rw (i, ← w) o
+-- the answer v, put behind what was written
+answer-put : {out out′ : List ℕ} {v x p : ℕ} (at at′ : ℕ) → v ≡ x → Put v p out out′ → p ≡ at → at′ ≡ at + 3 → out′ ≡ take at out ++ (twoDigits x ++ drop at′ out)
+answer-put at at′ w o e i = rw (i, ← w, ← e) (o .buffer)
 
 -- the line of a frame
-pub frame-taken : {input out out′ : List ℕ} {from next v at at′ : ℕ} → from + 16 < length input → at ≤ length out → FrameAt input from v → out′ ≡ take at out ++ (twoDigits v ++ drop (at + 3) out)
-    → next ≡ from + 17 → at′ ≡ at + 3 → WorkedFrom judging most input from next tt [] out at tt [] out′ at′
+pub frame-taken : {input out out′ : List ℕ} {from next v at at′ q p : ℕ} → from + 16 < length input → at ≤ length out → FrameAt input q v → Put v p out out′
+    → q ≡ from → p ≡ at → next ≡ from + 17 → at′ ≡ at + 3 → WorkedFrom judging most input from next tt [] out at tt [] out′ at′
 unfolding digitOf
-frame-taken {input} {out} {out′} {from} {next} {v} {at} {at′} h a f o e i =
+frame-taken {input} {out} {out′} {from} {next} {v} {at} {at′} h a g o eq ep en i =
     let line = take 16 (drop from input) in
-    let p : Plain line = record { none = plain-digits line (sixteen-parts line (f .digits) .1) newline refl } in
+    let f : FrameAt input from v = rw eq at g in
+    let plain : Plain line = record { none = plain-digits line (sixteen-parts line (f .digits) .1) newline refl } in
     let n : next - from ≡ 17 = omega arith in
-    let b : take 17 (drop from input) ≡ line ++ newline ∷ [] =
-    take-suc (drop from input) 16 0 (omega (arith, length-drop from input)) ∙ ap (λ (x : ℕ). line ++ x ∷ []) (getD-drop from input 16 0 ∙ f .ends) in
-    record { on = omega arith; within = omega arith; work = rw (n, b) (whole-line judging most (omega arith) reads p a refl (i ∙ omega (arith, three-bytes (verdictOf line))) (in-place at out at′ i (f .verdict) o)) }
+    let s = take-suc (drop from input) 16 0 (omega (arith, length-drop from input)) in
+    let b : take 17 (drop from input) ≡ line ++ newline ∷ [] = s ∙ ap (λ (x : ℕ). line ++ x ∷ []) (getD-drop from input 16 0 ∙ f .ends) in
+    let w = whole-line judging most (omega arith) reads plain a refl (i ∙ omega (arith, three-bytes (verdictOf line))) (answer-put at at′ (f .verdict) o ep i) in
+    record { on = omega arith; within = omega arith; work = rw (n, b) w }
 
 -- the bytes of a line up to its newline, or to the end of the input
 pub line-taken : {kept kept′ input : List ℕ} {from end : ℕ} (out : List ℕ) (at : ℕ) → at ≤ length out → LineEnd input from end → kept′ ≡ take most (kept ++ take (end - from) (drop from input))
@@ -70,12 +72,12 @@ line-taken {kept} {kept′} {input} {from} {end} out at a l k =
     record { on = l .on; within = l .within; work = unended judging most tt out at p a k }
 
 -- and the newline
-pub newline-taken : {kept input out out′ : List ℕ} {end next at at′ v : ℕ} → end < length input → getD input end 0 ≡ newline → v ≡ verdictOf kept → out′ ≡ take at out ++ (twoDigits v ++ drop (at + 3) out)
-    → next ≡ end + 1 → at′ ≡ at + 3 → WorkedFrom judging most input end next tt kept out at tt [] out′ at′
-newline-taken {kept} {input} {out} {out′} {end} {next} {at} {at′} {v} h e w o j i =
+pub newline-taken : {kept input out out′ : List ℕ} {end next at at′ v p : ℕ} → end < length input → getD input end 0 ≡ newline → v ≡ verdictOf kept → Put v p out out′
+    → p ≡ at → next ≡ end + 1 → at′ ≡ at + 3 → WorkedFrom judging most input end next tt kept out at tt [] out′ at′
+newline-taken {kept} {input} {out} {out′} {end} {next} {at} {at′} {v} h e w o ep en i =
     let n : next - end ≡ 1 = omega arith in
     let b : take 1 (drop end input) ≡ newline ∷ [] = ap (take 1) (drop-cons input end 0 h) ∙ ap (λ (x : ℕ). x ∷ []) e in
-    record { on = omega arith; within = omega arith; work = rw (n, b) (ended judging most refl (i ∙ omega (arith, three-bytes (verdictOf kept))) (in-place at out at′ i w o)) }
+    record { on = omega arith; within = omega arith; work = rw (n, b) (ended judging most refl (i ∙ omega (arith, three-bytes (verdictOf kept))) (answer-put at at′ w o ep i)) }
 
 -- what is kept has room in the array
 pub kept-few : (u : Unfinished) → length (u .bytes) ≡ 17 → length (keptOf u) ≤ most

@@ -1,6 +1,6 @@
 -- What the private functions promise to each other. Nobody has to believe these definitions: the public promises do not cite them.
 use mathlib.Core.Path.{_≡_}
-use mathlib.Core.List.{List}
+use mathlib.Core.List.{List, _++_}
 use mathlib.Core.Bool.{true}
 use Prim.Native.Nat.{ℕ, _+_, _≤_, _<_}
 use lib.ListN.{length, take, drop, getD}
@@ -11,8 +11,12 @@ use Rattle.verdicts.specs.declared.Unfinished.{Unfinished}
 use Rattle.verdicts.specs.declared.lines.Line.{Line}
 use Rattle.verdicts.specs.declared.lines.Line.the-variants.{Frame, Other}
 use Rattle.verdicts.specs.Verdict.{verdictOf}
-use Rattle.verdicts.specs.Sheet.{judging}
+use Rattle.verdicts.specs.Sheet.{twoDigits, judging}
 use Rattle.verdicts.specs.Kept.{most, keptOf}
+
+-- the buffer with an answer number put at a place
+pub record Put (n at : ℕ) (out out′ : List ℕ) : Type 0 where
+  pub buffer : out′ ≡ take at out ++ (twoDigits n ++ drop (at + 3) out)
 
 -- a frame and a newline stand at a place of an input, and v is the frame's verdict
 pub record FrameAt (input : List ℕ) (from v : ℕ) : Type 0 where

@@ -4,16 +4,15 @@ use frames::Reading;
 ghost use mathlib.Core.Path.{_≡_};
 ghost use mathlib.Core.List.{_++_};
 ghost use Prim.Native.Nat.{_+_, _-_, _*_, _≤_, _<_};
-ghost use lib.ListN.{length, take, drop};
+ghost use lib.ListN.{length, take};
 ghost use Rattle.verdicts.specs.Verdict.{verdictOf};
-ghost use Rattle.verdicts.specs.Sheet.{twoDigits};
 ghost use Rattle.verdicts.specs.Kept.{most, keptOf};
-ghost use Rattle.verdicts.specs.Inner.{LineAt, LineEnd, TakesFrom};
+ghost use Rattle.verdicts.specs.Inner.{LineAt, LineEnd, Put, TakesFrom};
 
 // An answer number as two lowercase hexadecimal digits and a newline.
 pub(crate) fn put(out: &mut [u8], at: usize, n: u8)
     requires { ⌜ at + 3 ≤ length (now out) ⌝ }
-    ensures { λ _. ⌜ now (out .exit) ≡ take at (now (out .entry)) ++ (twoDigits n ++ drop (at + 3) (now (out .entry))) ⌝ }
+    ensures { λ _. ⌜ Put n at (now (out .entry)) (now (out .exit)) ⌝ }
 {
     let high = hex::byte(n / 16);
     let low = hex::byte(n);

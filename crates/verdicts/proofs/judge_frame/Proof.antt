@@ -1,6 +1,7 @@
 -- `verdicts::judge_frame` meets its contract: what date to day answers for the date, against the frame's day.
 use mathlib.Core.Path.{_≡_, sym, ap, _∙_}
 use Prim.Native.Nat.{ℕ, _<_}
+use native.Mathlib.Omega.{arith}
 use lib.IntN.{pos, _-ℤ_}
 use mir.Syntax.{w64}
 use mir.Val.{toZ, ofZ}
@@ -24,7 +25,7 @@ cast-t5 : tie.Need-cast-t5
 cast-t5 c = search needs
 
 sub-t6 : tie.Need-sub-t6
-sub-t6 c = year-fits (c .before .args .f .year) (c .before .pre)
+sub-t6 c = year-fits (c .before .args .f .year) _ (c .before .pre) (omega arith)
 
 date-to-day-requires : tie.Need-date-to-day-requires
 date-to-day-requires c κs = search needs
@@ -35,23 +36,28 @@ enum-known-day c = search needs
 enum-known-why : tie.Need-enum-known-why
 enum-known-why c = search needs
 
+-- the verdict, once it is known what date to day answers
+answered : (c : tie.After-date-to-day) (r : Day) → c .date-to-day .result ≡ r → let f = c .before .before .args .f in verdictOn f ≡ against (dayPaper r) (f .number)
+answered c r e =
+    let f = c .before .before .args .f in
+    judged f (c .date-to-day .result) (c .before .before .pre) (c .date-to-day .ensures) ∙ ap (λ (x : Day). against (dayPaper x) (f .number)) e
+
 returns : tie.Need-returns
 returns c =
-    let s = c .before .before .before .before in
-    let f = s .before .before .before .args .f in
-    sym (judged f (s .before .date-to-day .result) (s .before .before .before .pre) (s .before .date-to-day .ensures) ∙ ap (λ (r : Day). against (dayPaper r) (f .number)) (c .before .before .before .day .given .1) ∙ ap (λ (d : ℕ). against (record { number = 0; day = d }) (f .number)) (c .if1 .taken) ∙ same-day (f .number))
+    let d = c .before .before .before in
+    let f = d .before .before .before .before .args .f in
+    let e : d .day .given .0 .0 ≡ f .number = omega arith in
+    sym (answered (d .before .before) _ (d .day .given .1) ∙ ap (λ (n : ℕ). against (record { number = 0; day = n }) (f .number)) e ∙ same-day (f .number))
 
 returns-2 : tie.Need-returns-2
 returns-2 c =
-    let s = c .before .before .before .before in
-    let f = s .before .before .before .args .f in
-    sym (judged f (s .before .date-to-day .result) (s .before .before .before .pre) (s .before .date-to-day .ensures) ∙ ap (λ (r : Day). against (dayPaper r) (f .number)) (c .before .before .before .day .given .1) ∙ other-day _ _ (c .if1 .left))
+    let d = c .before .before .before in
+    sym (answered (d .before .before) _ (d .day .given .1) ∙ other-day _ _ (λ e. c .if1 .left (omega arith)))
 
 returns-3 : tie.Need-returns-3
 returns-3 c =
-    let s = c .before .before in
-    let f = s .before .before .before .args .f in
-    sym (judged f (s .before .date-to-day .result) (s .before .before .before .pre) (s .before .date-to-day .ensures) ∙ ap (λ (r : Day). against (dayPaper r) (f .number)) (c .before .why .given .1) ∙ refused (c .before .why .given .0 .0) (f .number))
+    let w = c .before in
+    sym (answered (w .before .before) _ (w .why .given .1) ∙ refused (w .why .given .0 .0) (w .before .before .before .before .args .f .number))
 
 pub judge-frame-spec : {M : Type 1} → statement M
 judge-frame-spec =

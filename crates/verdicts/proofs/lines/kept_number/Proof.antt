@@ -46,7 +46,7 @@ returns c =
     let l = c .before .before .before in
     let u = l .before .before .args .line in
     let e : length (u .bytes) ≡ 17 = search needs in
-    c .number .ensures ∙ c .before .judge-line .ensures ∙ ap verdictOf (at-most (u .bytes) (l .least .result) (u .count) e (l .least .ensures))
+    c .number .ensures ∙ c .before .judge-line .ensures ∙ ap verdictOf (at-most (u .bytes) (l .least .result) (u .count) e (omega (arith, l .least .ensures)))
 
 pub kept-number-spec : {M : Type 1} → statement M
 kept-number-spec =

@@ -52,7 +52,7 @@ left c =
     subst (λ (k : List ℕ). WorkedFrom judging most (a .input .now) (a .from) (c .loop .next) tt k (a .out .now) (a .at) tt k (c .loop .out) (c .loop .written)) (none-kept (a .state) (omega arith)) (c .loop .inv)
 
 put-requires : tie.Need-put-requires Inv-loop μ-loop
-put-requires c κs = room (c .before .before .before .before .before)
+put-requires c κs = omega (arith, room (c .before .before .before .before .before))
 
 add-written : tie.Need-add-written Inv-loop μ-loop
 add-written c = let l = c .before .before .before .before .before .before .before .before in omega (arith, room l, size (l .before))
@@ -68,8 +68,9 @@ loop-again c =
     let f = c .before .before .before .before .before in
     let l = f .before .before .before .before in
     let i = l .loop .inv in
-    let e = subst (LineAt (l .before .before .before .before .before .args .input .now) (l .loop .next)) (f .n .given .1) (f .before .before .line-at .ensures) in
-    then-from judging most (omega arith) reads (omega arith) i (frame-taken (omega (arith, i .within)) (omega (arith, room (f .before .before .before))) e (c .before .before .put .ensures) (omega arith) (omega arith))
+    let e = subst (LineAt (l .before .before .before .before .before .args .input .now) _) (f .n .given .1) (f .before .before .line-at .ensures) in
+    then-from judging most (omega arith) reads (omega arith) i
+    (frame-taken (omega (arith, i .within)) (omega (arith, room (f .before .before .before))) e (c .before .before .put .ensures) (omega arith) (omega arith) (omega arith) (omega arith))
 
 enum-told : tie.Need-enum-told Inv-loop μ-loop
 enum-told c = search needs

@@ -56,8 +56,11 @@ returns-2 c =
     let n = c .before .before .before .before .before in
     let k = n .before .before in
     let e = k .before .before .line-end .ensures in
-    let l : k .before .before .line-end .result < length (k .before .before .before .before .before .args .input .now) = omega (arith, e .within) in
-    (then-from judging most (omega arith) reads (omega arith) (line k) (rw (c .new .ensures) (newline-taken l (e .ends l) (n .kept-number .ensures) (c .before .before .before .put .ensures) (omega arith) (omega arith))), omega (arith, e .on))
+    let l : k .before .before .line-end .result < length (k .before .before .before .before .before .args .input .now) = omega (arith, e .within) in (
+      then-from judging most (omega arith) reads (omega arith) (line k)
+          (rw (c .new .ensures) (newline-taken l (e .ends l) (n .kept-number .ensures) (c .before .before .before .put .ensures) (omega arith) (omega arith) (omega arith))),
+      omega (arith, e .on),
+    )
 
 pub take-line-spec : {M : Type 1} → statement M
 take-line-spec =
