@@ -1,7 +1,7 @@
 #!/usr/bin/env python3
 """sheet_data.py: writes crates/sheet/stdin and crates/sheet/stdout, the long sheet that the gate runs and what it must give.
 
-The verdicts are worked out here from document 01 alone, by counting: a calendar is a list of lengths for each year, and a day is found
+The verdicts are worked out here from docs/RULES.md alone, by counting: a calendar is a list of lengths for each year, and a day is found
 by adding the lengths up. Nothing of the repository's code is used.
 
 sheet_data.py --vectors FILE..    compares the calendars of this file with tables of dates (calendar, year, month, day, day number)

@@ -1,4 +1,4 @@
-// The calendars as the table of document 01 lists them, written anew: lengths of positions, and leap years by lists and cycles rather than by the code's formulas.
+// The calendars as the table of docs/RULES.md lists them, written anew: lengths of positions, and leap years by lists and cycles rather than by the code's formulas.
 #include "almanac.h"
 
 #include <map>

@@ -13,7 +13,7 @@ struct Feast {
 
 struct ijok_easter on(Feast f) { return {0, uint64_t(f.month), uint64_t(f.day)}; }
 
-// The rule as document 01 gives it (source 001).
+// The rule as docs/RULES.md gives it (source 001).
 Feast by_constants(int year, int m, int n) {
     int a = year % 19, b = year % 4, c = year % 7;
     int d = (19 * a + m) % 30;

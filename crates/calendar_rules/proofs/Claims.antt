@@ -90,7 +90,7 @@ pub length-listed : (c : ℕ) (y : ℤ) (m : ℕ) → lengthAnswer c y m .number
 unfolding lengthAnswer
 length-listed c y m = was-listed (λ (a : LengthAnswer). a .number) c _ _ (λ e. omega arith)
 
--- ---- which number is answered: k exactly where document 01's table gives k (`Given` and what applies: specs/Given.antt, and that of crate counting)
+-- ---- which number is answered: k exactly where the rules' table gives k (`Given` and what applies: specs/Given.antt, and that of crate counting)
 
 pub day-number : (c : ℕ) (y : ℤ) (m d k : ℕ) → (dayAnswer c y m d .number ≡ k) ↔ Given (Asked c (λ K. OfDate K y m d)) k
 unfolding dayAnswer

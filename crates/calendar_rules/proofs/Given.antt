@@ -1,4 +1,4 @@
--- The number of an answer is the one that document 01's table gives, where a calendar is asked for by its number (specs/Given.antt).
+-- The number of an answer is the one that the rules' table gives, where a calendar is asked for by its number (specs/Given.antt).
 use mathlib.Core.Path.{_≡_, refl, sym, ap, subst}
 use mathlib.Core.Bool.{Bool, true, false, cond, _&&_, _||_}
 use mathlib.Core.Logic.{inl, inr, ⊎-elim}

@@ -32,7 +32,7 @@ pub days-few : (z : ℕ) → z ≤ 2000 → daysBelow centuries z ≤ 740000
 unfolding centuryDays
 days-few z h = omega (arith, century-days z)
 
--- ---- the test: as it is quickest, and in document 01's words. What is divisible by 400 is divisible by 4
+-- ---- the test: as it is quickest, and in the rules' words. What is divisible by 400 is divisible by 4
 
 pub by-steps : (z : ℕ) → (eqb (z % 4) 0 && (not (eqb (z % 100) 0) || eqb (z % 400) 0)) ≡ leapBy centuries z
 unfolding leapBy

@@ -1,4 +1,5 @@
--- Document 01's table "Answer numbers" where a calendar is asked for by its number. `Given`, and what applies in a calendar, are those of crate counting.
+-- The table of docs/RULES.md, "Answer numbers", where a calendar is asked for by its number. `Given`, and what applies in a calendar, are those of crate
+-- counting.
 use Prim.Native.Nat.{ℕ, _≤_}
 use mathlib.Core.Path.{_≡_}
 use mathlib.Core.Logic.{_⊎_}

@@ -1,4 +1,4 @@
--- The answers in document 01's words: each case of an answer as its number and its values. A refusal has its number, and 0 in all other fields.
+-- The answers in the rules' words: each case of an answer as its number and its values. A refusal has its number, and 0 in all other fields.
 use lib.IntN.{pos}
 use Rattle.refusals.specs.Number.{numberOf}
 use Rattle.counting.specs.Answers.{DayAnswer, DateAnswer, LengthAnswer}

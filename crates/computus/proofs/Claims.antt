@@ -1,5 +1,5 @@
 -- What is shown of Easter, on one page. The definitions are those of specs/Rule.antt (`easterAnswer`, the published rule with its exceptions), specs/Feast.antt
--- (`Allowed`, document 01's years; `Feast`, what an Easter is) and of the crate calendar_rules (`dayAnswer`, date to day in every calendar).
+-- (`Allowed`, the rules' years; `Feast`, what an Easter is) and of the crate calendar_rules (`dayAnswer`, date to day in every calendar).
 use mathlib.Core.Path.{_≡_}
 use mathlib.Core.Logic.{_↔_}
 use Prim.Native.Nat.{ℕ, _+_, _≤_}

@@ -1,4 +1,4 @@
--- What an Easter is (document 01, "Easter"): a date of its season, one that its calendar has, and a Sunday by the calendar's own date to day.
+-- What an Easter is (docs/RULES.md, "Easter"): a date of its season, one that its calendar has, and a Sunday by the calendar's own date to day.
 use mathlib.Core.Path.{_≡_}
 use mathlib.Core.Logic.{_⊎_}
 use Prim.Native.Nat.{ℕ, _%_, _≤_}
@@ -6,7 +6,7 @@ use lib.IntN.{ℤ, pos}
 use Rattle.calendar_rules.specs.Answers.{dayAnswer}
 use Rattle.computus.specs.Rule.{EasterAnswer}
 
--- document 01's years of Easter
+-- the rules' years of Easter
 pub data Allowed : ℕ → ℤ → Type 0 where
   julian : {A : ℕ} → 1 ≤ A → A ≤ 9999 → Allowed 10 (pos A)
   gregorian : {A : ℕ} → 1583 ≤ A → A ≤ 9999 → Allowed 11 (pos A)

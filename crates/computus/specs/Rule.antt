@@ -1,5 +1,5 @@
 -- The date of Easter, as Français gives it (Annales de Mathématiques 4, 1813-1814, pages 274-275, problem I), with his letters, and the
--- answer of document 01 for every calendar number and year.
+-- answer of docs/RULES.md for every calendar number and year.
 use Prim.Native.Nat.{ℕ, _+_, _-_, _*_, _/_, _%_}
 use mathlib.Core.Bool.{Bool, cond, _&&_}
 use lib.Dec.{eqb, ltb, leb}
@@ -88,7 +88,7 @@ unfoldable pub inYears : ℕ → (ℕ → EasterAnswer) → ℤ → EasterAnswer
 inYears first rule (pos A) = cond (leb first A && leb A 9999) (rule A) (refused 2)
 inYears first rule (negsuc k) = refused 2
 
--- document 01, "Easter": calendar 10, years 1 to 9,999; calendar 11, years 1,583 to 9,999; any other calendar is refused 1
+-- docs/RULES.md, "Easter": calendar 10, years 1 to 9,999; calendar 11, years 1,583 to 9,999; any other calendar is refused 1
 unfoldable pub easterAnswer : ℕ → ℤ → EasterAnswer
 easterAnswer calendar year =
     cond (eqb calendar 10) (inYears 1 julianEaster year)

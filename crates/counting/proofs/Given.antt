@@ -1,4 +1,4 @@
--- The number of each answer is the one that document 01's table gives (specs/Given.antt).
+-- The number of each answer is the one that the rules' table gives (specs/Given.antt).
 use mathlib.Core.Path.{_≡_, refl, subst}
 use mathlib.Core.Bool.{Bool, true, false, cond, _||_}
 use mathlib.Core.Logic.{_⊎_, inl, inr, ⊎-elim, _↔_}

@@ -1,4 +1,4 @@
--- A calendar, and what it answers, by document 01's table "Answer numbers": date to day tries 2, 3, 4, 5; day to date 5; the length of a position 2, 3.
+-- A calendar, and what it answers, by the table of docs/RULES.md, "Answer numbers": date to day tries 2, 3, 4, 5; day to date 5; the length of a position 2, 3.
 -- (1, a number that is no calendar's, is tried where calendars are looked up by number.) A refusal has its number, and 0 in all other fields.
 use Prim.Native.Nat.{ℕ, _+_, _-_, _≤_}
 use mathlib.Core.Path.{_≡_}

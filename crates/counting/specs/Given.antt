@@ -1,5 +1,5 @@
--- Document 01's table "Answer numbers" as it is worded: which numbers apply to a question, and which one is given. The claims page shows that each answer's
--- number is the one given here. (1, a number that is no calendar's, is tried where calendars are looked up by number.)
+-- The table of docs/RULES.md, "Answer numbers", as it is worded: which numbers apply to a question, and which one is given. The claims page shows that each
+-- answer's number is the one given here. (1, a number that is no calendar's, is tried where calendars are looked up by number.)
 use Prim.Native.Nat.{ℕ, _<_, _≤_}
 use mathlib.Core.Path.{_≡_}
 use mathlib.Core.Bool.{true}

@@ -1,4 +1,4 @@
--- What is promised of `easter::easter`, on one page. Its contract, for every calendar number and year: the answer r, in document 01's words by
+-- What is promised of `easter::easter`, on one page. Its contract, for every calendar number and year: the answer r, in the rules' words by
 -- `easterPaper` (specs/Paper.antt), is `easterAnswer` of crate computus, the published rule. What follows of r, by that crate's claims:
 use mathlib.Core.Path.{_≡_}
 use Prim.Native.Nat.{ℕ}

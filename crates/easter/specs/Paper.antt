@@ -1,4 +1,4 @@
--- What the code's answers say in document 01's words: each case of `EasterDate` as an answer number, a month and a day.
+-- What the code's answers say in the rules' words: each case of `EasterDate` as an answer number, a month and a day.
 use Rattle.refusals.specs.Number.{numberOf}
 use Rattle.computus.specs.Rule.{EasterAnswer, refused}
 use Rattle.easter.specs.declared.MonthDay.{MonthDay}

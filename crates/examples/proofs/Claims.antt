@@ -1,5 +1,5 @@
--- Each starred example of document 01 is answered as it says: one table, one statement. Both sides are computed, the days of the years by counting them one by
--- one, but for the Hebrew years, whose first days are those that the rules give.
+-- Each starred example of docs/RULES.md is answered as it says: one table, one statement. Both sides are computed, the days of the years by counting them
+-- one by one, but for the Hebrew years, whose first days are those that the rules give.
 use mathlib.Core.Path.{_≡_, refl}
 use Prim.Native.Nat.{ℕ, _+_, _-_}
 use native.Mathlib.Omega.{arith}

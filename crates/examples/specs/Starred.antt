@@ -1,4 +1,4 @@
--- The worked examples that document 01 marks with a star ("Plates from the proof drawer"), as one table, over the definitions that the promises cite:
+-- The worked examples that docs/RULES.md marks with a star ("Worked examples"), as one table, over the definitions that the promises cite:
 -- `dayAnswer` of crate calendar_rules for date to day, `fitOf` of crate lines for fitting.
 use mathlib.Core.Path.{_≡_}
 use mathlib.Core.List.{List, [], _∷_}

@@ -1,1 +1,1 @@
-// The worked examples that document 01 marks to be proved, as one table and one statement: no code.
+// The worked examples that docs/RULES.md marks to be proved, as one table and one statement: no code.

@@ -1,4 +1,4 @@
--- The structs that C gets, as the answers of document 01: field by field, under the same names.
+-- The structs that C gets, as the answers of docs/RULES.md: field by field, under the same names.
 use Rattle.lines.specs.Fit.{Answer}
 use Rattle.counting.specs.Answers.{DayAnswer, DateAnswer, LengthAnswer}
 use Rattle.computus.specs.Rule.{EasterAnswer}

@@ -1,4 +1,4 @@
--- The fields of a frame in their order: calendar 2 digits, year plus 4,712 as 4, month 2, day of month 2, day number 6 (document 01, "Sheets").
+-- The fields of a frame in their order: calendar 2 digits, year plus 4,712 as 4, month 2, day of month 2, day number 6 (docs/RULES.md, "Sheets").
 use mathlib.Core.List.{List, _++_}
 use mathlib.Core.Bool.{cond}
 use Prim.Native.Nat.{ℕ}

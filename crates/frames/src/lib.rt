@@ -1,4 +1,4 @@
-// The fields of a frame (document 01, "Sheets"): reading them from a line and writing them to one.
+// The fields of a frame (docs/RULES.md, "Sheets"): reading them from a line and writing them to one.
 // `proofs/Claims.antt` is the page to read first.
 use hex::Digits;
 ghost use mathlib.Core.Path.{_≡_};

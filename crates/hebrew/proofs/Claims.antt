@@ -1,4 +1,4 @@
--- What is shown of the Hebrew year, on one page. The definitions are those of specs/Hebrew.antt: document 01's rules give `leap`, `monthsBefore` and `newYear`,
+-- What is shown of the Hebrew year, on one page. The definitions are those of specs/Hebrew.antt: the rules give `leap`, `monthsBefore` and `newYear`,
 -- the first day of a year as a Julian day number; `kinds` is the table of the six kinds; `lengths` gives a year the kind of its total. `years` is the calendar
 -- in the sense of counting, its years counted from 0. `YearOf`, which year a day is in, is in proofs/Calendar.antt, `kindOf` in proofs/SixKinds.antt,
 -- `estimate` in proofs/Estimate.antt.

@@ -1,4 +1,4 @@
--- First days, computed from the rules: those that document 01 gives, and those around its last day.
+-- First days, computed from the rules: those that docs/RULES.md gives, and those around its last day.
 use mathlib.Core.Path.{_≡_, refl}
 use native.Mathlib.Omega.{arith}
 use Rattle.hebrew.specs.Hebrew.{leap, monthsIn, monthsBefore, moon, moonDay, moonHour, secondApplies, thirdApplies, moved, fourthApplies, fourth, newYear}

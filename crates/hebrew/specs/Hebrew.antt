@@ -1,4 +1,4 @@
--- The Hebrew calendar, number 18, by the rules of document 01, "The Hebrew year". Years count from 1; a day is its Julian day number; a day begins at
+-- The Hebrew calendar, number 18, by docs/RULES.md, "The Hebrew year". Years count from 1; a day is its Julian day number; a day begins at
 -- 6 in the evening and has 24 hours of 1,080 parts.
 use Prim.Native.Nat.{ℕ, zero, suc, _+_, _*_, _-_, _/_, _%_}
 use mathlib.Core.Bool.{Bool, cond, not, _&&_, _||_}

@@ -1,4 +1,4 @@
--- Lowercase hexadecimal digits, the number that some of them write, and the digits that write a number (document 01, "Sheets").
+-- Lowercase hexadecimal digits, the number that some of them write, and the digits that write a number (docs/RULES.md, "Sheets").
 use mathlib.Core.List.{List, [], _∷_, _++_}
 use mathlib.Core.Bool.{Bool, true, cond, _&&_}
 use Prim.Native.Nat.{ℕ, zero, suc, _+_, _-_, _*_, _/_, _%_}

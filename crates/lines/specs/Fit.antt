@@ -11,7 +11,7 @@ use Rattle.lines.specs.BandTest.{within, sumTo, offsetOf, passes, first}
 
 -- ---- the answer
 
--- the answer number (document 01, "Answer numbers") and the line; a refusal has zeros in the place of the line
+-- the answer number (docs/RULES.md, "Answer numbers") and the line; a refusal has zeros in the place of the line
 pub record Answer : Type 0 where
   pub number : ℕ
   pub a : ℕ

@@ -1,4 +1,4 @@
-// Runs document 01's example of a sheet through `verdicts` in pieces of each length, with small and large output buffers. Each run writes
+// Runs the rules' example of a sheet through `verdicts` in pieces of each length, with small and large output buffers. Each run writes
 // the example's answers; an empty input writes nothing.
 use verdicts::Unfinished;
 ghost use Prim.Native.Nat.{_≤_};

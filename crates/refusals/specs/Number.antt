@@ -1,4 +1,4 @@
--- The number of each refusal, as document 01's table of answer numbers lists it. An answer that is no refusal has the number 0.
+-- The number of each refusal, as the table of docs/RULES.md, "Answer numbers", lists it. An answer that is no refusal has the number 0.
 use Prim.Native.Nat.{ℕ}
 use Rattle.refusals.specs.declared.Refusal.{Refusal}
 use Rattle.refusals.specs.declared.Refusal.the-variants.{UnknownCalendar, YearOutOfRange, NoSuchMonth, NoSuchDay, DayOutOfRange}

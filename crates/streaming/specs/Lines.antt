@@ -1,4 +1,4 @@
--- The lines of an input (document 01, "Sheets"), and what is written for them, over any machine that replies to lines.
+-- The lines of an input (docs/RULES.md, "Sheets"), and what is written for them, over any machine that replies to lines.
 use mathlib.Core.List.{List, [], _∷_, _++_}
 use mathlib.Core.Bool.{cond}
 use Prim.Native.Nat.{ℕ}

@@ -1,4 +1,4 @@
-// The worked examples of document 01 on dates and Easter.
+// The worked examples of docs/RULES.md on dates and Easter.
 use crate::output::put;
 use crate::show;
 

@@ -1,4 +1,4 @@
-// Inputs at the limits of document 01's answer numbers, and inputs to which two refusals apply.
+// Inputs at the limits of the rules' answer numbers, and inputs to which two refusals apply.
 use crate::output::put;
 use crate::show;
 

@@ -1,4 +1,4 @@
-// Runs the proved functions on the tables of data/, which other programs computed, and compares every row; then on the worked examples of document 01
+// Runs the proved functions on the tables of data/, which other programs computed, and compares every row; then on the worked examples of docs/RULES.md
 // and on inputs that are refused, and writes the answers.
 mod dates;
 mod easters;

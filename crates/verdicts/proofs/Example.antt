@@ -1,4 +1,4 @@
--- Document 01's example of a sheet, computed by the definitions.
+-- The rules' example of a sheet, computed by the definitions.
 use mathlib.Core.Path.{_≡_, refl}
 use mathlib.Core.List.{List, [], _∷_, _++_}
 use Prim.Native.Nat.{ℕ}
@@ -24,5 +24,6 @@ abbrev pub output : List ℕ
 output = 48 ∷ 48 ∷ 10 ∷ 48 ∷ 57 ∷ 10 ∷ 48 ∷ 56 ∷ 10 ∷ []
 
 pub example : sheetOf input ≡ output
-unfolding sheetOf linesOf replies twoDigits writtenIn verdictOf verdictOn fieldsOf against sixteenDigits allDigits digitOf numberFrom field dayAnswer calendar lookup dayFor years dayOf start total
+unfolding sheetOf linesOf replies twoDigits writtenIn verdictOf verdictOn fieldsOf against sixteenDigits allDigits digitOf numberFrom field dayAnswer
+    calendar lookup dayFor years dayOf start total
 example = refl

@@ -1,4 +1,4 @@
--- What the sheet program writes (document 01, "Sheets"). A sheet is document 01's word for an input of lines, each of which is to be a frame.
+-- What the sheet program writes (docs/RULES.md, "Sheets"). A sheet is an input of lines, each of which is to be a frame.
 use mathlib.Core.List.{List, [], _∷_, _++_}
 use Prim.Native.Nat.{ℕ}
 use Rattle.hex.specs.Digits.{writtenIn}

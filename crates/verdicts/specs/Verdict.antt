@@ -1,4 +1,4 @@
--- The verdict on one line of a sheet (document 01, "Sheets" and "Answer numbers").
+-- The verdict on one line of a sheet (docs/RULES.md, "Sheets" and "Answer numbers").
 use mathlib.Core.List.{List}
 use mathlib.Core.Bool.{cond}
 use Prim.Native.Nat.{ℕ}
