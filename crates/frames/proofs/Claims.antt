@@ -1,4 +1,5 @@
--- What is proved of the fields of a frame: the page to read first. It rests on specs/Frame.antt (the fields, reading, writing) and `Rattle.hex.specs.Digits` (digits).
+-- What is proved of the fields of a frame: the page to read first. It rests on specs/Frame.antt (the fields, reading, writing)
+-- and `Rattle.hex.specs.Digits` (digits).
 use mathlib.Core.Path.{_≡_, refl, sym, ap, _∙_, subst}
 use mathlib.Core.List.{List}
 use mathlib.Core.Bool.{Bool, true, false, cond}
@@ -37,7 +38,8 @@ pub narrow : (line : List ℕ) → sixteenDigits line ≡ true → Narrow (field
 unfolding fieldsOf
 narrow line h =
     let a = sixteen-parts line h .1 in
-    record { calendar = field-most line 0 2 a; year = field-most line 2 4 a; month = field-most line 6 2 a; day = field-most line 8 2 a; number = field-most line 10 6 a }
+    let field = field-most line in
+    record { calendar = field 0 2 a; year = field 2 4 a; month = field 6 2 a; day = field 8 2 a; number = field 10 6 a }
 
 pub read-narrow : (line : List ℕ) (f : Frame) → Fields f ≡ readingOf line → Narrow f
 read-narrow line f e = let r = is-fields line f e in subst Narrow (sym (r .1)) (narrow line (r .0))

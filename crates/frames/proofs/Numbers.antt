@@ -38,12 +38,15 @@ fields-parts line h =
     rw (part line 0 2 14 a l, part line 2 4 10 a l, part line 6 2 8 a l, part line 8 2 6 a l, part line 10 6 0 a l, div-one)
 
 -- a number put together of its parts, from the lowest up
-together : (n q6 q8 q10 q14 a b c d e : ℕ) → n ≡ q6 * 16 ^ 6 + e → q6 ≡ q8 * 16 ^ 2 + d → q8 ≡ q10 * 16 ^ 2 + c → q10 ≡ q14 * 16 ^ 4 + b → q14 ≡ a → a * 16 ^ 14 + b * 16 ^ 10 + c * 16 ^ 8 + d * 16 ^ 6 + e ≡ n
+together : (n q6 q8 q10 q14 a b c d e : ℕ) → n ≡ q6 * 16 ^ 6 + e → q6 ≡ q8 * 16 ^ 2 + d → q8 ≡ q10 * 16 ^ 2 + c → q10 ≡ q14 * 16 ^ 4 + b → q14 ≡ a
+    → a * 16 ^ 14 + b * 16 ^ 10 + c * 16 ^ 8 + d * 16 ^ 6 + e ≡ n
 together n q6 q8 q10 q14 a b c d e h₁ h₂ h₃ h₄ h₅ = omega arith
 
 pub packed-parts : (n : ℕ) → n < 2 ^ 64 → packed (partsOf n) ≡ n
 packed-parts n h =
-    simp mod-mod (together n (n / 16 ^ 6) (n / 16 ^ 8) (n / 16 ^ 10) (n / 16 ^ 14) _ _ _ _ _ (sym (div-add-mod' n (16 ^ 6))) (further n (16 ^ 6) (16 ^ 2)) (further n (16 ^ 8) (16 ^ 2)) (further n (16 ^ 10) (16 ^ 4)) (omega arith))
+    simp mod-mod
+    (together n (n / 16 ^ 6) (n / 16 ^ 8) (n / 16 ^ 10) (n / 16 ^ 14) _ _ _ _ _ (sym (div-add-mod' n (16 ^ 6))) (further n (16 ^ 6) (16 ^ 2))
+    (further n (16 ^ 8) (16 ^ 2)) (further n (16 ^ 10) (16 ^ 4)) (omega arith))
   where
     further : (n p q : ℕ) → n / p ≡ n / (p * q) * q + n / p % q
     further n p q = sym (div-add-mod' (n / p) q) ∙ ap (λ (x : ℕ). x * q + n / p % q) (div-div-eq-div-mul n p q)
@@ -63,9 +66,12 @@ unfolding frameOf
 frame-written f =
     sym (ap (writtenIn 16) sum
     ∙ written-join 2 14 (f .calendar % 16 ^ 2) p14 (omega arith) ∙ ap (λ (x : List ℕ). x ++ writtenIn 14 p14) (written-low 2 (f .calendar))
-    ∙ ap (λ (x : List ℕ). writtenIn 2 (f .calendar) ++ x) (written-join 4 10 (f .year % 16 ^ 4) p10 (omega arith) ∙ ap (λ (x : List ℕ). x ++ writtenIn 10 p10) (written-low 4 (f .year))
-    ∙ ap (λ (x : List ℕ). writtenIn 4 (f .year) ++ x) (written-join 2 8 (f .month % 16 ^ 2) p8 (omega arith) ∙ ap (λ (x : List ℕ). x ++ writtenIn 8 p8) (written-low 2 (f .month))
-    ∙ ap (λ (x : List ℕ). writtenIn 2 (f .month) ++ x) (written-join 2 6 (f .day % 16 ^ 2) p6 (omega arith) ∙ ap (λ (x : List ℕ). x ++ writtenIn 6 p6) (written-low 2 (f .day))
+    ∙ ap (λ (x : List ℕ). writtenIn 2 (f .calendar) ++ x) (written-join 4 10 (f .year % 16 ^ 4) p10 (omega arith)
+    ∙ ap (λ (x : List ℕ). x ++ writtenIn 10 p10) (written-low 4 (f .year))
+    ∙ ap (λ (x : List ℕ). writtenIn 4 (f .year) ++ x) (written-join 2 8 (f .month % 16 ^ 2) p8 (omega arith)
+    ∙ ap (λ (x : List ℕ). x ++ writtenIn 8 p8) (written-low 2 (f .month))
+    ∙ ap (λ (x : List ℕ). writtenIn 2 (f .month) ++ x) (written-join 2 6 (f .day % 16 ^ 2) p6 (omega arith)
+    ∙ ap (λ (x : List ℕ). x ++ writtenIn 6 p6) (written-low 2 (f .day))
     ∙ ap (λ (x : List ℕ). writtenIn 2 (f .day) ++ x) (written-low 6 (f .number))))))
   where
     p6 : ℕ

@@ -33,6 +33,7 @@ fn parts(n: u64) -> Frame
     }
 }
 
+// The fields of a line that is exactly 16 digits.
 pub fn read(line: &[u8]) -> Reading
     ensures { λ r. ⌜ r ≡ readingOf (now (line .entry)) ⌝ }
 {

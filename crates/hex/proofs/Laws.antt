@@ -1,9 +1,11 @@
--- Laws of digits: a number grows by one digit at a time, fits in as many bits, and has its fields as parts; reading what was written, and writing what was read.
+-- Laws of digits: a number grows by one digit at a time, fits in as many bits, and has its fields as parts; reading what was
+-- written, and writing what was read.
 use mathlib.Core.Path.{_≡_, refl, sym, ap, _∙_, subst}
 use mathlib.Core.List.{List, [], _∷_, _++_, append-nil}
 use mathlib.Core.Bool.{Bool, true, false, cond, _&&_, and-false, not}
 use Prim.Native.Nat.{ℕ, zero, suc, _+_, _-_, _*_, _/_, _%_, _^_, _≤_, _<_}
-use native.Mathlib.Nat.{pow-suc, pow-le-pow-right, mul-add-div-right, div-eq-of-lt, mod-eq-of-lt, mul-add-mod-self-right, mul-le-mul-right, div-add-mod', mod-lt, one-le-pow, zero-add}
+use native.Mathlib.Nat.{pow-suc, pow-le-pow-right, mul-add-div-right, div-eq-of-lt, mod-eq-of-lt, mul-add-mod-self-right, mul-le-mul-right}
+use native.Mathlib.Nat.{div-add-mod', mod-lt, one-le-pow, zero-add}
 use native.Mathlib.Omega.{arith}
 use lib.Dec.{leb, ltb, eqb}
 use lib.ListN.{length, take, drop, getD, length-drop, length-take, take-append-drop, length-append}
@@ -40,7 +42,9 @@ and-true false = refl
 
 pub all-suc : (line : List ℕ) (k : ℕ) → k < length line → allDigits (take (suc k) line) ≡ (allDigits (take k line) && isDigit (getD line k 0))
 unfolding allDigits
-all-suc line k h = ap allDigits (take-suc line k 0 h) ∙ all-append (take k line) (getD line k 0 ∷ []) ∙ ap (λ (c : Bool). allDigits (take k line) && c) (and-true (isDigit (getD line k 0)))
+all-suc line k h =
+    ap allDigits (take-suc line k 0 h) ∙ all-append (take k line) (getD line k 0 ∷ [])
+    ∙ ap (λ (c : Bool). allDigits (take k line) && c) (and-true (isDigit (getD line k 0)))
 
 -- one byte that is no digit, and the line has others than digits
 pub all-not : (line : List ℕ) (k : ℕ) → k < length line → isDigit (getD line k 0) ≡ false → allDigits line ≡ false
@@ -74,19 +78,26 @@ part line m n r a h = sym (low ∙ remains)
     whole = sym (take-append-drop (m + n) line)
 
     digits : (allDigits (take (m + n) line) ≡ true) × (allDigits (drop (m + n) line) ≡ true)
-    digits = both (allDigits (take (m + n) line)) (allDigits (drop (m + n) line)) (sym (all-append (take (m + n) line) (drop (m + n) line)) ∙ ap allDigits (sym whole) ∙ a)
+    digits =
+        both (allDigits (take (m + n) line)) (allDigits (drop (m + n) line)) (sym (all-append (take (m + n) line) (drop (m + n) line))
+        ∙ ap allDigits (sym whole) ∙ a)
 
     rest : length (drop (m + n) line) ≡ r
     rest = length-drop (m + n) line ∙ omega arith
 
     value : numberIn line ≡ numberIn (take (m + n) line) * 16 ^ r + numberIn (drop (m + n) line)
-    value = ap numberIn whole ∙ number-append 0 (take (m + n) line) (drop (m + n) line) ∙ number-from (numberIn (take (m + n) line)) (drop (m + n) line) ∙ ap (λ (k : ℕ). numberIn (take (m + n) line) * 16 ^ k + numberIn (drop (m + n) line)) rest
+    value =
+        ap numberIn whole ∙ number-append 0 (take (m + n) line) (drop (m + n) line) ∙ number-from (numberIn (take (m + n) line)) (drop (m + n) line)
+        ∙ ap (λ (k : ℕ). numberIn (take (m + n) line) * 16 ^ k + numberIn (drop (m + n) line)) rest
 
     below : numberIn (drop (m + n) line) < 16 ^ r
     below = subst (λ (k : ℕ). numberIn (drop (m + n) line) < 16 ^ k) rest (number-most (drop (m + n) line) (digits .1))
 
     low : numberIn line / 16 ^ r % 16 ^ n ≡ numberIn (take (m + n) line) % 16 ^ n
-    low = ap (λ (k : ℕ). k / 16 ^ r % 16 ^ n) value ∙ ap (λ (k : ℕ). k % 16 ^ n) (mul-add-div-right (omega (arith, below)) (numberIn (take (m + n) line)) (numberIn (drop (m + n) line)) ∙ ap (λ (k : ℕ). numberIn (take (m + n) line) + k) (div-eq-of-lt below) ∙ omega arith)
+    low =
+        ap (λ (k : ℕ). k / 16 ^ r % 16 ^ n) value
+        ∙ ap (λ (k : ℕ). k % 16 ^ n) (mul-add-div-right (omega (arith, below)) (numberIn (take (m + n) line)) (numberIn (drop (m + n) line))
+        ∙ ap (λ (k : ℕ). numberIn (take (m + n) line) + k) (div-eq-of-lt below) ∙ omega arith)
 
     middle : List ℕ
     middle = take n (drop m line)
@@ -98,10 +109,15 @@ part line m n r a h = sym (low ∙ remains)
     front = take-add m n line
 
     high : numberIn (take (m + n) line) ≡ numberIn (take m line) * 16 ^ n + numberIn middle
-    high = ap numberIn front ∙ number-append 0 (take m line) middle ∙ number-from (numberIn (take m line)) middle ∙ ap (λ (k : ℕ). numberIn (take m line) * 16 ^ k + numberIn middle) size
+    high =
+        ap numberIn front ∙ number-append 0 (take m line) middle ∙ number-from (numberIn (take m line)) middle
+        ∙ ap (λ (k : ℕ). numberIn (take m line) * 16 ^ k + numberIn middle) size
 
     small : numberIn middle < 16 ^ n
-    small = subst (λ (k : ℕ). numberIn middle < 16 ^ k) size (number-most middle (both (allDigits (take m line)) (allDigits middle) (sym (all-append (take m line) middle) ∙ ap allDigits (sym front) ∙ digits .0) .1))
+    small =
+        subst (λ (k : ℕ). numberIn middle < 16 ^ k) size
+        (number-most middle
+        (both (allDigits (take m line)) (allDigits middle) (sym (all-append (take m line) middle) ∙ ap allDigits (sym front) ∙ digits .0) .1))
 
     remains : numberIn (take (m + n) line) % 16 ^ n ≡ numberIn middle
     remains = ap (λ (k : ℕ). k % 16 ^ n) high ∙ mul-add-mod-self-right (numberIn (take m line)) (16 ^ n) (numberIn middle) ∙ mod-eq-of-lt small
@@ -134,16 +150,22 @@ unfolding digitOf every valued
 byte-value n h = eqb-true (digitOf (hexByte n)) n (every-at valued 16 refl n h)
 
 -- and the byte of a digit's value is that byte
-named : ℕ → Bool
-named b = cond (isDigit b) (eqb (hexByte (digitOf b)) b) true
-
 pub value-byte : (b : ℕ) → isDigit b ≡ true → hexByte (digitOf b) ≡ b
 unfolding digitOf
 value-byte b = go (leb 48 b && leb b 57) refl (leb 97 b && leb b 102) refl
   where
-    go : (x : Bool) → (leb 48 b && leb b 57) ≡ x → (y : Bool) → (leb 97 b && leb b 102) ≡ y → ltb (cond x (b - 48) (cond y (b - 87) 255)) 16 ≡ true → hexByte (cond x (b - 48) (cond y (b - 87) 255)) ≡ b
-    go true e y f h = let p = both (leb 48 b) (leb b 57) e in let l = leb-true 48 b (p .0) in let m = leb-true b 57 (p .1) in rw (lt-ltb (b - 48) 10 (omega arith)) (omega arith)
-    go false e true f h = let p = both (leb 97 b) (leb b 102) f in let l = leb-true 97 b (p .0) in let m = leb-true b 102 (p .1) in rw (le-ltb (b - 87) 10 (omega arith)) (omega arith)
+    go : (x : Bool) → (leb 48 b && leb b 57) ≡ x → (y : Bool) → (leb 97 b && leb b 102) ≡ y → ltb (cond x (b - 48) (cond y (b - 87) 255)) 16 ≡ true
+        → hexByte (cond x (b - 48) (cond y (b - 87) 255)) ≡ b
+    go true e y f h =
+        let p = both (leb 48 b) (leb b 57) e in
+        let l = leb-true 48 b (p .0) in
+        let m = leb-true b 57 (p .1) in
+        rw (lt-ltb (b - 48) 10 (omega arith)) (omega arith)
+    go false e true f h =
+        let p = both (leb 97 b) (leb b 102) f in
+        let l = leb-true 97 b (p .0) in
+        let m = leb-true b 102 (p .1) in
+        rw (le-ltb (b - 87) 10 (omega arith)) (omega arith)
     go false e false f h = let z : _≡_ {A = ℕ} 0 1 = cc in absurd (omega arith)
 
 -- ---- what is written
@@ -161,7 +183,9 @@ written-digits (suc k) n =
     all-append (writtenIn k (n / 16)) (hexByte (n % 16) ∷ []) ∙ rw (written-digits k (n / 16), lt-ltb (digitOf (hexByte (n % 16))) 16 d)
 
 low-digits : (k n : ℕ) → n / 16 % 16 ^ k * 16 + n % 16 ≡ n % 16 ^ suc k
-low-digits k n = rw pow-suc (sym (ap (λ (x : ℕ). x % (16 ^ k * 16)) whole ∙ mul-add-mod-self-right (n / 16 / 16 ^ k) (16 ^ k * 16) (n / 16 % 16 ^ k * 16 + n % 16) ∙ mod-eq-of-lt small))
+low-digits k n =
+    rw pow-suc (sym
+    (ap (λ (x : ℕ). x % (16 ^ k * 16)) whole ∙ mul-add-mod-self-right (n / 16 / 16 ^ k) (16 ^ k * 16) (n / 16 % 16 ^ k * 16 + n % 16) ∙ mod-eq-of-lt small))
   where
     whole : n ≡ n / 16 / 16 ^ k * (16 ^ k * 16) + (n / 16 % 16 ^ k * 16 + n % 16)
     whole = omega (arith, div-add-mod' (n / 16) (16 ^ k), div-add-mod' n 16)
@@ -199,19 +223,24 @@ pub written-join : (k m a b : ℕ) → b < 16 ^ m → writtenIn (m + k) (a * 16 
 unfolding writtenIn
 written-join k m a b h =
     let v : numberFrom a (writtenIn m b) ≡ a * 16 ^ m + b = number-from a (writtenIn m b) ∙ rw (written-length m b, read-written m b, mod-eq-of-lt h) in
-    sym (ap (λ (x : ℕ). writtenIn (m + k) x) v) ∙ ap (λ (x : ℕ). writtenIn (x + k) (numberFrom a (writtenIn m b))) (sym (written-length m b)) ∙ written-after k a (writtenIn m b) (written-digits m b)
+    sym (ap (λ (x : ℕ). writtenIn (m + k) x) v) ∙ ap (λ (x : ℕ). writtenIn (x + k) (numberFrom a (writtenIn m b))) (sym (written-length m b))
+    ∙ written-after k a (writtenIn m b) (written-digits m b)
 
 -- digits beyond those that are written do not count
 pub written-low : (k n : ℕ) → writtenIn k (n % 16 ^ k) ≡ writtenIn k n
-written-low k n = ap (writtenIn k) (sym (read-written k n)) ∙ ap (λ (j : ℕ). writtenIn j (numberIn (writtenIn k n))) (sym (written-length k n)) ∙ written-read (writtenIn k n) (written-digits k n)
+written-low k n =
+    ap (writtenIn k) (sym (read-written k n)) ∙ ap (λ (j : ℕ). writtenIn j (numberIn (writtenIn k n))) (sym (written-length k n))
+    ∙ written-read (writtenIn k n) (written-digits k n)
 
 -- a field has room in its digits
 pub field-most : (line : List ℕ) (at count : ℕ) → allDigits line ≡ true → field line at count < 16 ^ count
 unfolding field
 field-most line at count a =
     let rest = drop at line in
-    let d : allDigits rest ≡ true = both (allDigits (take at line)) (allDigits rest) (sym (all-append (take at line) rest) ∙ ap allDigits (take-append-drop at line) ∙ a) .1 in
-    let t : allDigits (take count rest) ≡ true = both (allDigits (take count rest)) (allDigits (drop count rest)) (sym (all-append (take count rest) (drop count rest)) ∙ ap allDigits (take-append-drop count rest) ∙ d) .0 in
+    let d : allDigits rest ≡ true = both (allDigits (take at line)) (allDigits rest) (sym (all-append (take at line) rest)
+    ∙ ap allDigits (take-append-drop at line) ∙ a) .1 in
+    let t : allDigits (take count rest) ≡ true = both (allDigits (take count rest)) (allDigits (drop count rest))
+    (sym (all-append (take count rest) (drop count rest)) ∙ ap allDigits (take-append-drop count rest) ∙ d) .0 in
     let l : length (take count rest) ≤ count = omega (arith, length-take count rest) in
     omega (arith, number-most (take count rest) t, pow-le-pow-right {n = 16} (omega arith) l)
 

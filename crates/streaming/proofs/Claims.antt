@@ -1,5 +1,6 @@
 -- What is proved of inputs of lines, over any machine that replies to lines: the page to read first.
--- It rests on specs/Lines.antt (lines, machines, replies) and, for the claims on pieces, on specs/Pieces.antt (a step of one byte, the unfinished line, pieces).
+-- It rests on specs/Lines.antt (lines, machines, replies) and, for the claims on pieces, on specs/Pieces.antt (a step of one byte,
+-- the unfinished line, pieces).
 use mathlib.Core.Path.{_≡_, refl}
 use mathlib.Core.List.{List, [], _∷_, _++_}
 use Prim.Native.Nat.{ℕ, _*_, _<_}
@@ -28,7 +29,8 @@ no-lines = refl
 
 module _ {S : Type 0} (m : Machine S) where
   -- each reply is fixed by its line and by the lines before it: where all have w bytes, those of the kth line stand from k w on
-  pub w-bytes-a-line : (w : ℕ) → ((s : S) (line : List ℕ) → length (m .reply s line) ≡ w) → (s : S) (t : List ℕ) → length (replies m s (linesOf t)) ≡ length (linesOf t) * w
+  pub w-bytes-a-line : (w : ℕ) → ((s : S) (line : List ℕ) → length (m .reply s line) ≡ w) → (s : S) (t : List ℕ)
+      → length (replies m s (linesOf t)) ≡ length (linesOf t) * w
   w-bytes-a-line w wide s t = replies-length m w wide s (linesOf t)
 
   pub reply-of-each-line : (w : ℕ) → ((s : S) (line : List ℕ) → length (m .reply s line) ≡ w) → (s : S) (t : List ℕ) (k : ℕ) → k < length (linesOf t)
@@ -37,7 +39,8 @@ module _ {S : Type 0} (m : Machine S) where
 
   -- an input may be cut at any newline: the second part goes on from the state that the first leaves
   pub cut-at-a-newline : (s : S) (t u : List ℕ)
-      → replies m s (linesOf ((t ++ newline ∷ []) ++ u)) ≡ replies m s (linesOf (t ++ newline ∷ [])) ++ replies m (moved m s (linesOf (t ++ newline ∷ []))) (linesOf u)
+      → replies m s (linesOf ((t ++ newline ∷ []) ++ u))
+      ≡ replies m s (linesOf (t ++ newline ∷ [])) ++ replies m (moved m s (linesOf (t ++ newline ∷ []))) (linesOf u)
   cut-at-a-newline s t u = parts m s (t ++ newline ∷ []) u (after-newline [] t)
 
   -- However the input is cut into pieces, what is written piece by piece is the output of the whole and the state at the end is that of the whole,

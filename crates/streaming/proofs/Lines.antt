@@ -28,9 +28,13 @@ unfolding answers after answered movedBy grown closed
 back line [] = sym (append-nil line)
 back line (b ∷ t) = go (eqb b newline) refl (back [] t) (back (line ++ b ∷ []) t)
   where
-    go : (c : Bool) → eqb b newline ≡ c → answers closed tt [] t ++ after [] t ≡ t → answers closed tt (line ++ b ∷ []) t ++ after (line ++ b ∷ []) t ≡ (line ++ b ∷ []) ++ t
-        → (cond c (line ++ newline ∷ []) [] ++ answers closed (cond c tt tt) (cond c [] (line ++ b ∷ [])) t) ++ after (cond c [] (line ++ b ∷ [])) t ≡ line ++ b ∷ t
-    go true e h k = append-assoc (line ++ newline ∷ []) _ _ ∙ ap (λ (x : List ℕ). (line ++ newline ∷ []) ++ x) h ∙ append-snoc line newline t ∙ ap (λ (x : ℕ). line ++ x ∷ t) (sym (eqb-true b newline e))
+    go : (c : Bool) → eqb b newline ≡ c → answers closed tt [] t ++ after [] t ≡ t
+        → answers closed tt (line ++ b ∷ []) t ++ after (line ++ b ∷ []) t ≡ (line ++ b ∷ []) ++ t
+        → (cond c (line ++ newline ∷ []) [] ++ answers closed (cond c tt tt) (cond c [] (line ++ b ∷ [])) t) ++ after
+        (cond c [] (line ++ b ∷ [])) t ≡ line ++ b ∷ t
+    go true e h k =
+        append-assoc (line ++ newline ∷ []) _ _ ∙ ap (λ (x : List ℕ). (line ++ newline ∷ []) ++ x) h ∙ append-snoc line newline t
+        ∙ ap (λ (x : ℕ). line ++ x ∷ t) (sym (eqb-true b newline e))
     go false e h k = k ∙ append-snoc line b t
 
 closed-ending : (l : List ℕ) → ending closed tt l ≡ l ++ missing l
@@ -40,7 +44,9 @@ closed-ending (b ∷ l) = refl
 
 pub lines-back : (t : List ℕ) → replies (still (λ line. line ++ newline ∷ [])) tt (linesOf t) ≡ t ++ missing (after [] t)
 unfolding closed
-lines-back t = steps closed tt t ∙ ap (λ (x : List ℕ). answers closed tt [] t ++ x) (closed-ending (after [] t)) ∙ sym (append-assoc (answers closed tt [] t) _ _) ∙ ap (λ (x : List ℕ). x ++ missing (after [] t)) (back [] t)
+lines-back t =
+    steps closed tt t ∙ ap (λ (x : List ℕ). answers closed tt [] t ++ x) (closed-ending (after [] t)) ∙ sym (append-assoc (answers closed tt [] t) _ _)
+    ∙ ap (λ (x : List ℕ). x ++ missing (after [] t)) (back [] t)
 
 -- and no line has a newline in it
 pub lines-plain : (s : List ℕ) (k j : ℕ) → getD (getD (linesOf s) k []) j 0 ≡ newline → ⊥
@@ -48,7 +54,8 @@ unfolding linesOf
 lines-plain [] k j e = omega arith
 lines-plain (b ∷ s) k j e = go (eqb b newline) refl (linesOf s) (lines-plain s) k j e
   where
-    go : (c : Bool) → eqb b newline ≡ c → (ls : List (List ℕ)) → ((k j : ℕ) → getD (getD ls k []) j 0 ≡ newline → ⊥) → (k j : ℕ) → getD (getD (cond c ([] ∷ ls) (ahead b ls)) k []) j 0 ≡ newline → ⊥
+    go : (c : Bool) → eqb b newline ≡ c → (ls : List (List ℕ)) → ((k j : ℕ) → getD (getD ls k []) j 0 ≡ newline → ⊥) → (k j : ℕ)
+        → getD (getD (cond c ([] ∷ ls) (ahead b ls)) k []) j 0 ≡ newline → ⊥
     go true t ls h zero j e = omega arith
     go true t ls h (suc k) j e = h k j e
     go false t [] h zero zero e = eqb-false b newline t e
@@ -64,7 +71,8 @@ module _ {S : Type 0} (m : Machine S) (w : ℕ) (wide : (s : S) (line : List ℕ
   pub replies-length : (s : S) (ls : List (List ℕ)) → length (replies m s ls) ≡ length ls * w
   unfolding replies
   replies-length s [] = sym (zero-mul w)
-  replies-length s (l ∷ ls) = length-append (m .reply s l) (replies m (m .move s l) ls) ∙ omega (arith, wide s l, replies-length (m .move s l) ls, suc-mul (length ls) w)
+  replies-length s (l ∷ ls) =
+      length-append (m .reply s l) (replies m (m .move s l) ls) ∙ omega (arith, wide s l, replies-length (m .move s l) ls, suc-mul (length ls) w)
 
   pub reply-at : (s : S) (ls : List (List ℕ)) (k : ℕ) → k < length ls → take w (drop (k * w) (replies m s ls)) ≡ m .reply (moved m s (take k ls)) (getD ls k [])
   unfolding replies moved
@@ -72,4 +80,5 @@ module _ {S : Type 0} (m : Machine S) (w : ℕ) (wide : (s : S) (line : List ℕ
   reply-at s (l ∷ ls) zero h = rw zero-mul (take-at (m .reply s l) (replies m (m .move s l) ls) w (wide s l))
   reply-at s (l ∷ ls) (suc k) h =
       let e : suc k * w ≡ length (m .reply s l) + k * w = omega (arith, suc-mul k w, wide s l) in
-      ap (λ (n : ℕ). take w (drop n (m .reply s l ++ replies m (m .move s l) ls))) e ∙ ap (take w) (drop-append-add (m .reply s l) (replies m (m .move s l) ls) (k * w)) ∙ reply-at (m .move s l) ls k (omega arith)
+      ap (λ (n : ℕ). take w (drop n (m .reply s l ++ replies m (m .move s l) ls))) e
+      ∙ ap (take w) (drop-append-add (m .reply s l) (replies m (m .move s l) ls) (k * w)) ∙ reply-at (m .move s l) ls k (omega arith)

@@ -1,7 +1,7 @@
 -- Bytes of which none is a newline: they grow the unfinished line, and nothing else happens.
 use mathlib.Core.Path.{_≡_, refl, sym, ap, _∙_}
 use mathlib.Core.List.{List, [], _∷_, _++_, append-nil}
-use Prim.Native.Nat.{ℕ, zero, suc, _<_}
+use Prim.Native.Nat.{ℕ, suc, _<_}
 use native.Mathlib.Omega.{arith}
 use lib.ListN.{length, getD}
 use lib.Seq.{append-snoc}
@@ -14,13 +14,6 @@ pub record Plain (t : List ℕ) : Type 0 where
 
 pub plain-nil : Plain []
 plain-nil = record { none = λ k l e. omega arith }
-
-pub plain-byte : (b : ℕ) → (b ≡ newline → ⊥) → Plain (b ∷ [])
-plain-byte b h = record { none = go }
-  where
-    go : (k : ℕ) → k < 1 → getD (b ∷ []) k 0 ≡ newline → ⊥
-    go zero l e = h e
-    go (suc k) l e = omega arith
 
 head : {b : ℕ} {t : List ℕ} → Plain (b ∷ t) → b ≡ newline → ⊥
 head p = p .none 0 (omega arith)
@@ -43,4 +36,5 @@ module _ {S : Type 0} (m : Machine S) where
   unfolding answers
   plain-answers s line [] p = refl
   plain-answers s line (b ∷ t) p =
-      ap (λ (x : List ℕ). x ++ answers m (movedBy m s line b) (grown line b) t) (answered-other m s line b (head p)) ∙ plain-answers (movedBy m s line b) (grown line b) t (tail p)
+      ap (λ (x : List ℕ). x ++ answers m (movedBy m s line b) (grown line b) t) (answered-other m s line b (head p))
+      ∙ plain-answers (movedBy m s line b) (grown line b) t (tail p)

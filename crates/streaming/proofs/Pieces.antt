@@ -62,7 +62,8 @@ module _ {S : Type 0} (m : Machine S) where
   pub answers-append : (s : S) (line t u : List ℕ) → answers m s line (t ++ u) ≡ answers m s line t ++ answers m (stateAfter m s line t) (after line t) u
   unfolding answers stateAfter after
   answers-append s line [] u = refl
-  answers-append s line (b ∷ t) u = ap (λ (l : List ℕ). answered m s line b ++ l) (answers-append (movedBy m s line b) (grown line b) t u) ∙ sym (append-assoc (answered m s line b) _ _)
+  answers-append s line (b ∷ t) u =
+      ap (λ (l : List ℕ). answered m s line b ++ l) (answers-append (movedBy m s line b) (grown line b) t u) ∙ sym (append-assoc (answered m s line b) _ _)
 
   -- what is written from a place on, where `line` was begun before it, and the state at the end
   record Written (t : List ℕ) (s : S) (line : List ℕ) : Type 0 where
@@ -72,15 +73,20 @@ module _ {S : Type 0} (m : Machine S) where
   -- one byte, with the test c of whether it is a newline
   one : (s : S) (line : List ℕ) (b : ℕ) (t : List ℕ) (c : Bool) → ((s : S) (l : List ℕ) → Written t s l)
       → (replies m s (glue line (cond c ([] ∷ linesOf t) (ahead b (linesOf t))))
-      ≡ (cond c (m .reply s line) [] ++ answers m (cond c (m .move s line) s) (cond c [] (line ++ b ∷ [])) t) ++ ending m (stateAfter m (cond c (m .move s line) s) (cond c [] (line ++ b ∷ [])) t) (after (cond c [] (line ++ b ∷ [])) t))
-      × (moved m s (glue line (cond c ([] ∷ linesOf t) (ahead b (linesOf t)))) ≡ endState m (stateAfter m (cond c (m .move s line) s) (cond c [] (line ++ b ∷ [])) t) (after (cond c [] (line ++ b ∷ [])) t))
+      ≡ (cond c (m .reply s line) [] ++ answers m (cond c (m .move s line) s) (cond c [] (line ++ b ∷ [])) t) ++ ending m
+      (stateAfter m (cond c (m .move s line) s) (cond c [] (line ++ b ∷ [])) t) (after (cond c [] (line ++ b ∷ [])) t))
+      × (moved m s (glue line (cond c ([] ∷ linesOf t) (ahead b (linesOf t)))) ≡ endState m
+      (stateAfter m (cond c (m .move s line) s) (cond c [] (line ++ b ∷ [])) t) (after (cond c [] (line ++ b ∷ [])) t))
   unfolding replies moved
   one s line b t true h =
       let w = h (m .move s line) [] in (
-        ap (λ (l : List ℕ). m .reply s l ++ replies m (m .move s l) (linesOf t)) (append-nil line) ∙ ap (λ (l : List ℕ). m .reply s line ++ l) (ap (replies m (m .move s line)) (sym (glue-nil (linesOf t))) ∙ w .output) ∙ sym (append-assoc (m .reply s line) _ _),
+        ap (λ (l : List ℕ). m .reply s l ++ replies m (m .move s l) (linesOf t)) (append-nil line)
+            ∙ ap (λ (l : List ℕ). m .reply s line ++ l) (ap (replies m (m .move s line)) (sym (glue-nil (linesOf t))) ∙ w .output)
+            ∙ sym (append-assoc (m .reply s line) _ _),
         ap (λ (l : List ℕ). moved m (m .move s l) (linesOf t)) (append-nil line) ∙ ap (moved m (m .move s line)) (sym (glue-nil (linesOf t))) ∙ w .state,
       )
-  one s line b t false h = let w = h s (line ++ b ∷ []) in (ap (replies m s) (glue-ahead line b (linesOf t)) ∙ w .output, ap (moved m s) (glue-ahead line b (linesOf t)) ∙ w .state)
+  one s line b t false h =
+      let w = h s (line ++ b ∷ []) in (ap (replies m s) (glue-ahead line b (linesOf t)) ∙ w .output, ap (moved m s) (glue-ahead line b (linesOf t)) ∙ w .state)
 
   written : (t : List ℕ) (s : S) (line : List ℕ) → Written t s line
   unfolding replies moved linesOf answers stateAfter ending endState after grown answered movedBy
@@ -98,15 +104,18 @@ module _ {S : Type 0} (m : Machine S) where
   -- ---- two parts put together
 
   -- where the first part leaves no unfinished line, the output is the two outputs put together, the second from the state that the first leaves
-  pub parts : (s : S) (t u : List ℕ) → after [] t ≡ [] → replies m s (linesOf (t ++ u)) ≡ replies m s (linesOf t) ++ replies m (moved m s (linesOf t)) (linesOf u)
+  pub parts : (s : S) (t u : List ℕ) → after [] t ≡ []
+      → replies m s (linesOf (t ++ u)) ≡ replies m s (linesOf t) ++ replies m (moved m s (linesOf t)) (linesOf u)
   unfolding ending endState
   parts s t u e =
       let a : moved m s (linesOf t) ≡ stateAfter m s [] t = steps-state s t ∙ ap (endState m (stateAfter m s [] t)) e in
-      let w : replies m s (linesOf t) ≡ answers m s [] t = steps s t ∙ ap (λ (x : List ℕ). answers m s [] t ++ ending m (stateAfter m s [] t) x) e ∙ append-nil (answers m s [] t) in
+      let w : replies m s (linesOf t) ≡ answers m s [] t = steps s t ∙ ap (λ (x : List ℕ). answers m s [] t ++ ending m (stateAfter m s [] t) x) e
+      ∙ append-nil (answers m s [] t) in
       steps s (t ++ u)
       ∙ ap (λ (x : List ℕ). x ++ ending m (stateAfter m s [] (t ++ u)) (after [] (t ++ u))) (answers-append s [] t u)
       ∙ ap (λ (x : S). (answers m s [] t ++ answers m (stateAfter m s [] t) (after [] t) u) ++ ending m x (after [] (t ++ u))) (state-append s [] t u)
-      ∙ ap (λ (x : List ℕ). (answers m s [] t ++ answers m (stateAfter m s [] t) (after [] t) u) ++ ending m (stateAfter m (stateAfter m s [] t) (after [] t) u) x) (after-append [] t u)
+      ∙ ap (λ (x : List ℕ). (answers m s [] t ++ answers m (stateAfter m s [] t) (after [] t) u) ++ ending m
+      (stateAfter m (stateAfter m s [] t) (after [] t) u) x) (after-append [] t u)
       ∙ ap (λ (x : List ℕ). (answers m s [] t ++ answers m (stateAfter m s [] t) x u) ++ ending m (stateAfter m (stateAfter m s [] t) x u) (after x u)) e
       ∙ append-assoc (answers m s [] t) _ _
       ∙ ap (λ (x : List ℕ). answers m s [] t ++ x) (sym (steps (stateAfter m s [] t) u))
@@ -165,7 +174,8 @@ module _ (n : ℕ) (pos : 0 < n) where
     pub same-state : (s : S) (l k t : List ℕ) → take n l ≡ take n k → stateAfter m s l t ≡ stateAfter m s k t
     unfolding stateAfter Same
     same-state s l k [] e = refl
-    same-state s l k (b ∷ t) e = ap (λ (x : S). stateAfter m x (grown l b) t) (same-moved s l k b e) ∙ same-state (movedBy m s k b) (grown l b) (grown k b) t (same-grown l k b e)
+    same-state s l k (b ∷ t) e =
+        ap (λ (x : S). stateAfter m x (grown l b) t) (same-moved s l k b e) ∙ same-state (movedBy m s k b) (grown l b) (grown k b) t (same-grown l k b e)
 
     pub same-answers : (s : S) (l k t : List ℕ) → take n l ≡ take n k → answers m s l t ≡ answers m s k t
     unfolding answers answered Same
@@ -181,7 +191,8 @@ module _ (n : ℕ) (pos : 0 < n) where
     kept-end (suc k) h r s [] = (refl, refl)
     kept-end (suc k) h r s (b ∷ l) = (r .reply s (b ∷ l), r .move s (b ∷ l))
 
-    kept-pieces : (s : S) (l : List ℕ) (ps : List (List ℕ)) → inPieces m n s (take n l) ps ≡ answers m s l (joined ps) ++ ending m (stateAfter m s l (joined ps)) (after l (joined ps))
+    kept-pieces : (s : S) (l : List ℕ) (ps : List (List ℕ))
+        → inPieces m n s (take n l) ps ≡ answers m s l (joined ps) ++ ending m (stateAfter m s l (joined ps)) (after l (joined ps))
     unfolding inPieces joined answers stateAfter after
     kept-pieces s l [] = kept-end n pos reads s l .0
     kept-pieces s l (p ∷ ps) =
@@ -190,7 +201,8 @@ module _ (n : ℕ) (pos : 0 < n) where
         ∙ ap (λ (x : S). answers m s l p ++ inPieces m n x (take n (after l p)) ps) (same-state s (take n l) l p (take-self l))
         ∙ ap (λ (x : List ℕ). answers m s l p ++ x) (kept-pieces (stateAfter m s l p) (after l p) ps)
         ∙ sym (append-assoc (answers m s l p) _ _)
-        ∙ ap (λ (x : List ℕ). x ++ ending m (stateAfter m (stateAfter m s l p) (after l p) (joined ps)) (after (after l p) (joined ps))) (sym (answers-append m s l p (joined ps)))
+        ∙ ap (λ (x : List ℕ). x ++ ending m (stateAfter m (stateAfter m s l p) (after l p) (joined ps)) (after (after l p) (joined ps)))
+        (sym (answers-append m s l p (joined ps)))
         ∙ ap (λ (x : S). answers m s l (p ++ joined ps) ++ ending m x (after (after l p) (joined ps))) (sym (state-append m s l p (joined ps)))
         ∙ ap (λ (x : List ℕ). answers m s l (p ++ joined ps) ++ ending m (stateAfter m s l (p ++ joined ps)) x) (sym (after-append l p (joined ps)))
 

@@ -16,7 +16,8 @@ use Rattle.streaming.proofs.Newlines.{Plain, plain-nil, plain-after, pl
 
 module _ {S : Type 0} (m : Machine S) (n : ℕ) where
   -- bytes without a newline
-  pub unended : {t kept kept′ : List ℕ} (s : S) (out : List ℕ) (at : ℕ) → Plain t → at ≤ length out → kept′ ≡ take n (kept ++ t) → Worked m n t s kept out at s kept′ out at
+  pub unended : {t kept kept′ : List ℕ} (s : S) (out : List ℕ) (at : ℕ) → Plain t → at ≤ length out → kept′ ≡ take n (kept ++ t)
+      → Worked m n t s kept out at s kept′ out at
   unended {t} {kept} s out at p a k =
       let none = plain-answers m s kept t p in
       record {
@@ -30,13 +31,15 @@ module _ {S : Type 0} (m : Machine S) (n : ℕ) where
   pub none : (s : S) (kept out : List ℕ) (at : ℕ) → length kept ≤ n → at ≤ length out → Worked m n [] s kept out at s kept out at
   none s kept out at k a = unended s out at plain-nil a (sym (take-all n kept k) ∙ ap (take n) (sym (append-nil kept)))
 
-  pub none-from : {input : List ℕ} {i : ℕ} (s : S) (kept out : List ℕ) (at : ℕ) → i ≤ length input → length kept ≤ n → at ≤ length out → WorkedFrom m n input i i s kept out at s kept out at
+  pub none-from : {input : List ℕ} {i : ℕ} (s : S) (kept out : List ℕ) (at : ℕ) → i ≤ length input → length kept ≤ n → at ≤ length out
+      → WorkedFrom m n input i i s kept out at s kept out at
   none-from {input} {i} s kept out at h k a =
       let e : i - i ≡ 0 = omega arith in
       record { on = omega arith; within = h; work = rw e (none s kept out at k a) }
 
   -- a newline: the reply to the line that was kept
-  pub ended : {s s′ : S} {kept out out′ : List ℕ} {at at′ : ℕ} → s′ ≡ m .move s kept → at′ ≡ at + length (m .reply s kept) → out′ ≡ take at out ++ (m .reply s kept ++ drop at′ out)
+  pub ended : {s s′ : S} {kept out out′ : List ℕ} {at at′ : ℕ} → s′ ≡ m .move s kept → at′ ≡ at + length (m .reply s kept)
+      → out′ ≡ take at out ++ (m .reply s kept ++ drop at′ out)
       → Worked m n (newline ∷ []) s kept out at s′ [] out′ at′
   unfolding stateAfter movedBy after grown answers answered
   ended {s} {s′} {kept} {out} {out′} {at} {at′} i c o =
@@ -52,7 +55,9 @@ module _ {S : Type 0} (m : Machine S) (n : ℕ) (h : 0 < n) (reads : Reads n m) 
       → Worked m n t s kept out at s₁ kept₁ out₁ at₁ → Worked m n u s₁ kept₁ out₁ at₁ s₂ kept₂ out₂ at₂ → Worked m n (t ++ u) s kept out at s₂ kept₂ out₂ at₂
   then {t} {u} {s} {s₁} {s₂} {kept} {kept₁} {kept₂} {out} {out₁} {out₂} {at} {at₁} {at₂} a w v =
       record {
-        state = v .state ∙ ap (λ (x : S). stateAfter m x kept₁ u) (w .state) ∙ same-state n h m reads (stateAfter m s kept t) kept₁ (after kept t) u near ∙ sym (state-append m s kept t u);
+        state =
+            v .state ∙ ap (λ (x : S). stateAfter m x kept₁ u) (w .state) ∙ same-state n h m reads (stateAfter m s kept t) kept₁ (after kept t) u near
+            ∙ sym (state-append m s kept t u);
         left = v .left ∙ same-after n h kept₁ (after kept t) u near ∙ ap (take n) (sym (after-append kept t u));
         count = v .count ∙ omega (arith, w .count, ap length more, ap length all, length-append first second);
         buffer =
@@ -95,16 +100,19 @@ module _ {S : Type 0} (m : Machine S) (n : ℕ) (h : 0 < n) (reads : Reads n m) 
           ∙ ap (λ (x : ℕ). drop x out) (sym k)
 
   -- a whole line at once, where none is begun
-  pub whole-line : {line : List ℕ} {s s′ : S} {out out′ : List ℕ} {at at′ : ℕ} → Plain line → at ≤ length out → s′ ≡ m .move s line → at′ ≡ at + length (m .reply s line)
+  pub whole-line : {line : List ℕ} {s s′ : S} {out out′ : List ℕ} {at at′ : ℕ} → Plain line → at ≤ length out → s′ ≡ m .move s line
+      → at′ ≡ at + length (m .reply s line)
       → out′ ≡ take at out ++ (m .reply s line ++ drop at′ out) → Worked m n (line ++ newline ∷ []) s [] out at s′ [] out′ at′
   whole-line {line} {s} {s′} {out} {out′} {at} {at′} p a i c o =
       let r = reads .reply s line in
       then a (unended m n s out at p a refl)
-      (ended m n (i ∙ sym (reads .move s line)) (c ∙ ap (λ (x : List ℕ). at + length x) (sym r)) (o ∙ ap (λ (x : List ℕ). take at out ++ (x ++ drop at′ out)) (sym r)))
+      (ended m n (i ∙ sym (reads .move s line)) (c ∙ ap (λ (x : List ℕ). at + length x) (sym r))
+      (o ∙ ap (λ (x : List ℕ). take at out ++ (x ++ drop at′ out)) (sym r)))
 
   -- from one place of an input to another, and on to a third
   pub then-from : {input : List ℕ} {i j k : ℕ} {s s₁ s₂ : S} {kept kept₁ kept₂ out out₁ out₂ : List ℕ} {at at₁ at₂ : ℕ} → at ≤ length out
-      → WorkedFrom m n input i j s kept out at s₁ kept₁ out₁ at₁ → WorkedFrom m n input j k s₁ kept₁ out₁ at₁ s₂ kept₂ out₂ at₂ → WorkedFrom m n input i k s kept out at s₂ kept₂ out₂ at₂
+      → WorkedFrom m n input i j s kept out at s₁ kept₁ out₁ at₁ → WorkedFrom m n input j k s₁ kept₁ out₁ at₁ s₂ kept₂ out₂ at₂
+      → WorkedFrom m n input i k s kept out at s₂ kept₂ out₂ at₂
   then-from {input} {i} {j} {k} {s} {s₁} {s₂} {kept} {kept₁} {kept₂} {out} {out₁} {out₂} {at} {at₁} {at₂} a w v =
       let e : (j - i) + (k - j) ≡ k - i = omega (arith, w .on, v .on) in
       let f : i + (j - i) ≡ j = omega (arith, w .on) in
@@ -150,7 +158,8 @@ module _ {S : Type 0} (m : Machine S) (w : ℕ) (wide : (s : S) (line : List ℕ
       let rest = answers m (movedBy m s line b) (grown line b) t in
       omega (arith, length-append (answered m s line b) rest, answered-few s line b, answers-few (movedBy m s line b) (grown line b) t, suc-mul (length t) w)
 
-  pub few : {n : ℕ} {input : List ℕ} {i j : ℕ} {s s′ : S} {kept kept′ out out′ : List ℕ} {at at′ : ℕ} → WorkedFrom m n input i j s kept out at s′ kept′ out′ at′ → at′ ≤ at + (j - i) * w
+  pub few : {n : ℕ} {input : List ℕ} {i j : ℕ} {s s′ : S} {kept kept′ out out′ : List ℕ} {at at′ : ℕ}
+      → WorkedFrom m n input i j s kept out at s′ kept′ out′ at′ → at′ ≤ at + (j - i) * w
   few {n} {input} {i} {j} {s} {s′} {kept} {kept′} {out} {out′} {at} {at′} f =
       let t = take (j - i) (drop i input) in
       let l : length t ≡ j - i = length-take-le (j - i) (drop i input) (omega (arith, length-drop i input, f .on, f .within)) in

@@ -1,6 +1,8 @@
 -- What is proved of verdicts and sheets: the page to read first.
--- It rests on `Rattle.hex.specs.Digits` (digits), `Rattle.frames.specs.Frame` (the fields of a frame), `Rattle.calendar_rules.specs.Answers` (what date to day answers), specs/Verdict.antt
--- (the verdict on a line), `Rattle.streaming.specs.Lines` (lines, and what is written for them) and specs/Sheet.antt (the output for an input). specs/Kept.antt says what a call of the code
+-- It rests on `Rattle.hex.specs.Digits` (digits), `Rattle.frames.specs.Frame` (the fields of a frame), `Rattle.calendar_rules.specs.Answers` (what date to
+-- day answers), specs/Verdict.antt
+-- (the verdict on a line), `Rattle.streaming.specs.Lines` (lines, and what is written for them) and specs/Sheet.antt (the output for an input).
+-- specs/Kept.antt says what a call of the code
 -- does with a piece; the last claim takes any run of such calls to the output of the whole input.
 use mathlib.Core.Path.{_≡_, refl, sym, ap, _∙_}
 use mathlib.Core.Logic.{_↔_}
@@ -58,7 +60,8 @@ module _ (line : List ℕ) where
   unfolding verdictOf verdictOn against
   cases P none refused other right = go (sixteenDigits line) refl (eqb (answerFor f .number) 0) refl (eqb (answerFor f .day) (f .number)) refl
     where
-      go : (x : Bool) → sixteenDigits line ≡ x → (g : Bool) → eqb (answerFor f .number) 0 ≡ g → (s : Bool) → eqb (answerFor f .day) (f .number) ≡ s → P (cond x (cond g (cond s 0 9) (answerFor f .number)) 8)
+      go : (x : Bool) → sixteenDigits line ≡ x → (g : Bool) → eqb (answerFor f .number) 0 ≡ g → (s : Bool) → eqb (answerFor f .day) (f .number) ≡ s
+          → P (cond x (cond g (cond s 0 9) (answerFor f .number)) 8)
       go false h g e s d = none h
       go true h false e s d = refused h (eqb-false _ _ e)
       go true h true e false d = other h (eqb-true _ _ e) (eqb-false _ _ d)
@@ -68,7 +71,8 @@ module _ (line : List ℕ) where
   pub no-frame : (verdictOf line ≡ 8) ↔ (sixteenDigits line ≡ false)
   unfolding verdictOf
   no-frame = (
-    cases (λ v. v ≡ 8 → sixteenDigits line ≡ false) (λ h e. h) (λ h n e. absurd (omega (arith, five f))) (λ h n d e. absurd (omega arith)) (λ h n d e. absurd (omega arith)),
+    cases (λ v. v ≡ 8
+        → sixteenDigits line ≡ false) (λ h e. h) (λ h n e. absurd (omega (arith, five f))) (λ h n d e. absurd (omega arith)) (λ h n d e. absurd (omega arith)),
     λ h. rw h,
   )
 
@@ -76,7 +80,9 @@ module _ (line : List ℕ) where
   pub right : (verdictOf line ≡ 0) ↔ ((sixteenDigits line ≡ true) × (answerFor f .number ≡ 0) × (answerFor f .day ≡ f .number))
   unfolding verdictOf verdictOn against
   right = (
-    cases (λ v. v ≡ 0 → (sixteenDigits line ≡ true) × (answerFor f .number ≡ 0) × (answerFor f .day ≡ f .number)) (λ h e. absurd (omega arith)) (λ h n e. absurd (n e)) (λ h n d e. absurd (omega arith)) (λ h n d e. (h, n, d)),
+    cases (λ v. v ≡ 0
+        → (sixteenDigits line ≡ true) × (answerFor f .number ≡ 0)
+        × (answerFor f .day ≡ f .number)) (λ h e. absurd (omega arith)) (λ h n e. absurd (n e)) (λ h n d e. absurd (omega arith)) (λ h n d e. (h, n, d)),
     λ h. rw (h .0, eq-eqb (answerFor f .number) 0 (h .1), eq-eqb (answerFor f .day) (f .number) (h .2)),
   )
 
@@ -84,7 +90,9 @@ module _ (line : List ℕ) where
   pub wrong-day : (verdictOf line ≡ 9) ↔ ((sixteenDigits line ≡ true) × (answerFor f .number ≡ 0) × (answerFor f .day ≡ f .number → ⊥))
   unfolding verdictOf verdictOn against
   wrong-day = (
-    cases (λ v. v ≡ 9 → (sixteenDigits line ≡ true) × (answerFor f .number ≡ 0) × (answerFor f .day ≡ f .number → ⊥)) (λ h e. absurd (omega arith)) (λ h n e. absurd (omega (arith, five f))) (λ h n d e. (h, n, d)) (λ h n d e. absurd (omega arith)),
+    cases (λ v. v ≡ 9
+        → (sixteenDigits line ≡ true) × (answerFor f .number ≡ 0) × (answerFor f .day ≡ f .number
+        → ⊥)) (λ h e. absurd (omega arith)) (λ h n e. absurd (omega (arith, five f))) (λ h n d e. (h, n, d)) (λ h n d e. absurd (omega arith)),
     λ h. rw (h .0, eq-eqb (answerFor f .number) 0 (h .1), ne-eqb (answerFor f .day) (f .number) (h .2)),
   )
 
@@ -117,7 +125,8 @@ split s t = cut-at-a-newline judging tt s t
 
 pub data Run : Unfinished → List (List ℕ) → List ℕ → Type 0 where
   finish : {u : Unfinished} → Run u [] (take (endingOf (keptOf u) .count) (endingOf (keptOf u) .bytes))
-  judge : {u : Unfinished} {piece out out′ : List ℕ} {r : Progress} {rest : List (List ℕ)} {written : List ℕ} → Judged u piece out r out′ → Run (r .state) rest written → Run u (piece ∷ rest) (take (r .written) out′ ++ written)
+  judge : {u : Unfinished} {piece out out′ : List ℕ} {r : Progress} {rest : List (List ℕ)} {written : List ℕ} → Judged u piece out r out′
+      → Run (r .state) rest written → Run u (piece ∷ rest) (take (r .written) out′ ++ written)
 
 ends : (line : List ℕ) → take (endingOf line .count) (endingOf line .bytes) ≡ ending judging tt line
 unfolding endingOf ending twoDigits writtenIn
@@ -128,7 +137,8 @@ by-pieces : {u : Unfinished} {ps : List (List ℕ)} {written : List ℕ} → Run
 unfolding inPieces
 by-pieces {u} finish = ends (keptOf u)
 by-pieces (judge {u} {piece} {out} {out′} {r} {rest} {written} j run) =
-    ap (λ (l : List ℕ). l ++ written) (ap (take (r .written)) (j .buffer) ∙ take-at (answers judging tt (keptOf u) piece) (drop (r .written) out) (r .written) (sym (j .written)))
+    ap (λ (l : List ℕ). l ++ written) (ap (take (r .written)) (j .buffer)
+    ∙ take-at (answers judging tt (keptOf u) piece) (drop (r .written) out) (r .written) (sym (j .written)))
     ∙ ap (λ (l : List ℕ). answers judging tt (keptOf u) piece ++ l) (by-pieces run ∙ ap (λ (l : List ℕ). inPieces judging most tt l rest) (j .state))
 
 -- However the input comes in pieces, and whatever buffers are lent, what a run from the first state writes is the output for the whole.

@@ -24,6 +24,6 @@ abbrev pub output : List ℕ
 output = 48 ∷ 48 ∷ 10 ∷ 48 ∷ 57 ∷ 10 ∷ 48 ∷ 56 ∷ 10 ∷ []
 
 pub example : sheetOf input ≡ output
-unfolding sheetOf linesOf replies twoDigits writtenIn verdictOf verdictOn fieldsOf against sixteenDigits allDigits digitOf numberFrom field dayAnswer
-    calendar lookup dayFor years dayOf start total
+unfolding sheetOf linesOf replies twoDigits writtenIn verdictOf verdictOn fieldsOf against sixteenDigits allDigits digitOf numberFrom field
+    dayAnswer calendar lookup dayFor years dayOf start total
 example = refl

@@ -36,7 +36,8 @@ unfolding verdictOf
 frame line h = rw h
 
 -- sixteen digits and a newline at `stop`, read and judged
-pub frame-at : (input : List ℕ) (from stop v : ℕ) (f : Frame) → getD input stop 0 ≡ newline → Fields f ≡ readingOf (take (stop - from) (drop from input)) → v ≡ verdictOn f → stop ≡ from + 16
+pub frame-at : (input : List ℕ) (from stop v : ℕ) (f : Frame) → getD input stop 0 ≡ newline → Fields f ≡ readingOf (take (stop - from) (drop from input))
+    → v ≡ verdictOn f → stop ≡ from + 16
     → FrameAt input from v
 frame-at input from stop v f e d w h =
     let l : stop - from ≡ 16 = omega arith in

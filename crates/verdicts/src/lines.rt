@@ -21,7 +21,8 @@ pub(crate) fn put(out: &mut [u8], at: usize, n: u8)
     out[at + 2] = b'\n';
 }
 
-// What starts at a place: a frame and its newline, with the number of its verdict, or something else.
+// What starts at a place: a frame and its newline, with the number of its verdict, or something else, of which nothing is said: it is taken
+// by its newline.
 enum Line {
     Frame(u8),
     Other,

@@ -25,7 +25,8 @@ record Passed (line : List ℕ) (n : ℕ) (good : Bool) (k : ℕ) : Type 0 where
   value : good ≡ true → n ≡ numberIn (take k line)
 
 -- one byte more, b, of which d is the guess and w what the guess writes: it is a digit where w is b
-next : {line : List ℕ} {n n′ : ℕ} {good good′ : Bool} {k k′ d w : ℕ} → length line ≡ 16 → Passed line n good k → k < 16 → getD line k 0 < 256 → d ≡ guess (getD line k 0) → w ≡ hexByte (d % 16)
+next : {line : List ℕ} {n n′ : ℕ} {good good′ : Bool} {k k′ d w : ℕ} → length line ≡ 16 → Passed line n good k → k < 16 → getD line k 0 < 256
+    → d ≡ guess (getD line k 0) → w ≡ hexByte (d % 16)
     → n′ ≡ n * 16 + d → good′ ≡ (good && eqb w (getD line k 0)) → k′ ≡ k + 1 → Passed line n′ good′ k′
 next {line} {n} {n′} {good} {good′} {k} {k′} {d} {w} h p l small e f en eg ek =
     let b = getD line k 0 in
@@ -47,7 +48,8 @@ fits {line} {n} {good} {k} d p l m = omega (arith, p .small, pow-le-pow-right {n
 
 -- a conjunction by its four cases
 conjunction : {z : Bool} (x y : Bool)
-    → (x ≡ true → y ≡ true → z ≡ true) → (x ≡ true → y ≡ false → z ≡ false) → (x ≡ false → y ≡ true → z ≡ false) → (x ≡ false → y ≡ false → z ≡ false) → z ≡ (x && y)
+    → (x ≡ true → y ≡ true → z ≡ true) → (x ≡ true → y ≡ false → z ≡ false) → (x ≡ false → y ≡ true → z ≡ false) → (x ≡ false → y ≡ false → z ≡ false)
+    → z ≡ (x && y)
 conjunction true true a b c d = a refl refl
 conjunction true false a b c d = b refl refl
 conjunction false true a b c d = c refl refl
@@ -103,7 +105,8 @@ loop-again c =
     (conjunction (l .good) (eqb (c .byte .result) b) (λ p q. simp (p, q)) (λ p q. simp (p, q)) (λ p q. simp (p, q)) (λ p q. simp (p, q))) (omega arith)
 
 -- all bytes are passed
-passed : (c : tie.At-loop Inv-loop μ-loop) → 16 ≤ c .loop .k → take (c .loop .k) (c .before .before .before .args .line .now) ≡ c .before .before .before .args .line .now
+passed : (c : tie.At-loop Inv-loop μ-loop) → 16 ≤ c .loop .k
+    → take (c .loop .k) (c .before .before .before .args .line .now) ≡ c .before .before .before .args .line .now
 passed c h = take-all (c .loop .k) (c .before .before .before .args .line .now) (omega arith)
 
 returns-2 : tie.Need-returns-2 Inv-loop μ-loop
@@ -111,7 +114,12 @@ unfolding digitsOf sixteenDigits
 returns-2 c =
     let w = passed (c .before .before) (omega arith) in
     let e = c .before .before .loop .inv .value (c .if2 .taken) in
-    rw (eq-eqb (length (c .before .before .before .before .before .args .line .now)) 16 (omega arith), sym (ap allDigits w) ∙ sym (c .before .before .loop .inv .digits) ∙ c .if2 .taken, e ∙ ap numberIn w)
+    rw (
+      eq-eqb (length (c .before .before .before .before .before .args .line .now)) 16 (omega arith),
+      sym (ap allDigits w)
+          ∙ sym (c .before .before .loop .inv .digits) ∙ c .if2 .taken,
+      e ∙ ap numberIn w,
+    )
 
 returns-3 : tie.Need-returns-3 Inv-loop μ-loop
 unfolding digitsOf sixteenDigits

@@ -1,5 +1,5 @@
 -- `verdicts::finish` meets its contract.
-use mathlib.Core.Path.{_≡_, refl, sym, ap, _∙_}
+use mathlib.Core.Path.{_≡_, refl, ap, _∙_}
 use mathlib.Core.List.{List, [], _∷_}
 use Prim.Native.Nat.{ℕ, zero, suc, _<_}
 use native.Mathlib.Omega.{arith}
@@ -13,7 +13,8 @@ use Rattle.verdicts.proofs.finish.Statement.{statement}
 use Rattle.verdicts.proofs.finish.Tie as tie
 
 -- a line that has bytes
-some-bytes : (bytes : List ℕ) (count : ℕ) → length bytes ≡ 17 → 0 < count → _≡_ {A = Ending} (record { bytes = reply (take count bytes); count = 3 }) (endingOf (take count bytes))
+some-bytes : (bytes : List ℕ) (count : ℕ) → length bytes ≡ 17 → 0 < count
+    → _≡_ {A = Ending} (record { bytes = reply (take count bytes); count = 3 }) (endingOf (take count bytes))
 unfolding endingOf
 some-bytes [] count e h = absurd (omega arith)
 some-bytes (b ∷ bytes) zero e h = absurd (omega arith)
@@ -40,7 +41,8 @@ unfolding keptOf twoDigits writtenIn
 returns-2 c =
     let u = c .before .before .before .before .before .before .args .state in
     let e : length (u .bytes) ≡ 17 = search needs in
-    ap (λ (l : List ℕ). record { bytes = l; count = 3 }) (c .before .put .ensures .buffer ∙ ap twoDigits (c .before .before .before .kept-number .ensures)) ∙ some-bytes (u .bytes) (u .count) e (omega (arith, c .before .before .before .before .if1 .left))
+    ap (λ (l : List ℕ). record { bytes = l; count = 3 }) (c .before .put .ensures .buffer ∙ ap twoDigits (c .before .before .before .kept-number .ensures))
+    ∙ some-bytes (u .bytes) (u .count) e (omega (arith, c .before .before .before .before .if1 .left))
 
 pub finish-spec : {M : Type 1} → statement M
 finish-spec =

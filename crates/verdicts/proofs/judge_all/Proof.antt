@@ -31,7 +31,9 @@ loop-less : tie.Need-loop-less Inv-loop μ-loop
 loop-less c = let t = c .before .before .before in omega (arith, t .take-some .ensures .0 .within, t .take-some .ensures .1)
 
 loop-again : tie.Need-loop-again Inv-loop μ-loop
-loop-again c = let t = c .before .before .before in then-from judging most (omega arith) reads (omega arith) (t .before .before .before .loop .inv) (t .take-some .ensures .0)
+loop-again c =
+    let t = c .before .before .before in then-from judging most (omega arith) reads (omega arith) (t .before .before .before .loop .inv)
+    (t .take-some .ensures .0)
 
 same-length : tie.Need-same-length Inv-loop μ-loop
 same-length c = same-buffer (omega arith) (c .before .loop .inv)

@@ -17,7 +17,9 @@ use Rattle.verdicts.proofs.judge_frame.Statement.{statement}
 use Rattle.verdicts.proofs.judge_frame.Tie as tie
 
 -- what date to day answers, against the frame's day, is the verdict
-judged : (f : Frame) (r : Day) → f .year < 65536 → dayPaper r ≡ dayAnswer (f .calendar) (toZ w64 (ofZ w64 (toZ w64 (f .year) -ℤ pos 4712))) (f .month) (f .day) → verdictOn f ≡ against (dayPaper r) (f .number)
+judged : (f : Frame) (r : Day) → f .year < 65536
+    → dayPaper r ≡ dayAnswer (f .calendar) (toZ w64 (ofZ w64 (toZ w64 (f .year) -ℤ pos 4712))) (f .month) (f .day)
+    → verdictOn f ≡ against (dayPaper r) (f .number)
 unfolding verdictOn
 judged f r n h = rw (h, year-read (f .year) n)
 
@@ -37,7 +39,8 @@ enum-known-why : tie.Need-enum-known-why
 enum-known-why c = search needs
 
 -- the verdict, once it is known what date to day answers
-answered : (c : tie.After-date-to-day) (r : Day) → c .date-to-day .result ≡ r → let f = c .before .before .args .f in verdictOn f ≡ against (dayPaper r) (f .number)
+answered : (c : tie.After-date-to-day) (r : Day) → c .date-to-day .result ≡ r
+    → let f = c .before .before .args .f in verdictOn f ≡ against (dayPaper r) (f .number)
 answered c r e =
     let f = c .before .before .args .f in
     judged f (c .date-to-day .result) (c .before .before .pre) (c .date-to-day .ensures) ∙ ap (λ (x : Day). against (dayPaper x) (f .number)) e

@@ -16,7 +16,9 @@ slice-aggregate-judge-all : tie.Need-slice-aggregate-judge-all
 slice-aggregate-judge-all c = sym (length-take-le _ _ (omega (arith, c .before .least .ensures)))
 
 judge-all-requires : tie.Need-judge-all-requires
-judge-all-requires c κs = let e = c .before .before .least .ensures in omega (arith, length-take-le (c .before .before .least .result) (c .before .before .before .before .before .args .piece .now) (omega arith))
+judge-all-requires c κs =
+    let e = c .before .before .least .ensures in omega
+    (arith, length-take-le (c .before .before .least .result) (c .before .before .before .before .before .args .piece .now) (omega arith))
 
 same-length : tie.Need-same-length
 same-length c = search needs

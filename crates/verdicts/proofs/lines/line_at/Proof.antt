@@ -39,7 +39,8 @@ returns c =
     let f = c .before .before .before in
     let m = f .before .before in
     let a = m .before .before .before .before .before .args in
-    frame-at (a .input .now) (a .from) _ (c .number .result) (f .f .given .0 .0) (m .before .before .if1 .taken) (sym (f .f .given .1) ∙ m .read .ensures) (c .number .ensures ∙ c .before .judge-frame .ensures) (omega arith)
+    frame-at (a .input .now) (a .from) _ (c .number .result) (f .f .given .0 .0) (m .before .before .if1 .taken) (sym (f .f .given .1)
+    ∙ m .read .ensures) (c .number .ensures ∙ c .before .judge-frame .ensures) (omega arith)
 
 enum-told : tie.Need-enum-told
 enum-told c = search needs

@@ -44,7 +44,10 @@ returns : tie.Need-returns
 unfolding twoDigits writtenIn
 returns c =
     let a = c .before .before .before .args in
-    record { buffer = rw (c .before .byte .ensures, c .byte2 .ensures) (three (a .out .now) (a .at) (hexByte (a .n / 16 % 16)) (hexByte (a .n % 16)) 10 (omega arith)) }
+    record {
+      buffer = rw (c .before .byte .ensures, c .byte2 .ensures)
+          (three (a .out .now) (a .at) (hexByte (a .n / 16 % 16)) (hexByte (a .n % 16)) 10 (omega arith));
+    }
 
 pub put-spec : {M : Type 1} → statement M
 put-spec =

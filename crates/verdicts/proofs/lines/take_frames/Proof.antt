@@ -46,10 +46,14 @@ room : (c : tie.In-loop Inv-loop μ-loop) → c .before .loop .written + 3 ≤ l
 room c = let i = c .before .loop .inv in omega (arith, few-written i, size (c .before), i .on, i .within)
 
 -- what holds where the loop is left
-left : (c : tie.At-loop Inv-loop μ-loop) → let a = c .before .before .before .before .before .args in TakesFrom (a .state) (a .input .now) (a .from) (c .loop .next) (a .out .now) (a .at) (a .state) (c .loop .out) (c .loop .written)
+left : (c : tie.At-loop Inv-loop μ-loop)
+    → let a =
+    c .before .before .before .before .before .args in TakesFrom (a .state) (a .input .now) (a .from) (c .loop .next) (a .out .now) (a .at) (a .state)
+    (c .loop .out) (c .loop .written)
 left c =
     let a = c .before .before .before .before .before .args in
-    subst (λ (k : List ℕ). WorkedFrom judging most (a .input .now) (a .from) (c .loop .next) tt k (a .out .now) (a .at) tt k (c .loop .out) (c .loop .written)) (none-kept (a .state) (omega arith)) (c .loop .inv)
+    subst (λ (k : List ℕ). WorkedFrom judging most (a .input .now) (a .from) (c .loop .next) tt k (a .out .now) (a .at) tt k (c .loop .out)
+    (c .loop .written)) (none-kept (a .state) (omega arith)) (c .loop .inv)
 
 put-requires : tie.Need-put-requires Inv-loop μ-loop
 put-requires c κs = omega (arith, room (c .before .before .before .before .before))
@@ -70,7 +74,8 @@ loop-again c =
     let i = l .loop .inv in
     let e = subst (LineAt (l .before .before .before .before .before .args .input .now) _) (f .n .given .1) (f .before .before .line-at .ensures) in
     then-from judging most (omega arith) reads (omega arith) i
-    (frame-taken (omega (arith, i .within)) (omega (arith, room (f .before .before .before))) e (c .before .before .put .ensures) (omega arith) (omega arith) (omega arith) (omega arith))
+    (frame-taken (omega (arith, i .within)) (omega (arith, room (f .before .before .before))) e (c .before .before .put .ensures) (omega arith) (omega arith)
+    (omega arith) (omega arith))
 
 enum-told : tie.Need-enum-told Inv-loop μ-loop
 enum-told c = search needs

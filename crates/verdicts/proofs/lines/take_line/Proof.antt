@@ -27,7 +27,10 @@ keep-requires : tie.Need-keep-requires
 keep-requires c κs = search needs
 
 -- the line as far as the input has it
-line : (c : tie.After-keep) → let a = c .before .before .before .before .before .args in TakesFrom (a .state) (a .input .now) (a .from) (c .before .before .line-end .result) (a .out .now) (a .at) (c .keep .result) (a .out .now) (a .at)
+line : (c : tie.After-keep)
+    → let a =
+    c .before .before .before .before .before .args in TakesFrom (a .state) (a .input .now) (a .from) (c .before .before .line-end .result) (a .out .now)
+    (a .at) (c .keep .result) (a .out .now) (a .at)
 line c = line-taken _ _ (omega arith) (c .before .before .line-end .ensures) (c .keep .ensures)
 
 returns : tie.Need-returns
@@ -58,7 +61,8 @@ returns-2 c =
     let e = k .before .before .line-end .ensures in
     let l : k .before .before .line-end .result < length (k .before .before .before .before .before .args .input .now) = omega (arith, e .within) in (
       then-from judging most (omega arith) reads (omega arith) (line k)
-          (rw (c .new .ensures) (newline-taken l (e .ends l) (n .kept-number .ensures) (c .before .before .before .put .ensures) (omega arith) (omega arith) (omega arith))),
+          (rw (c .new .ensures)
+          (newline-taken l (e .ends l) (n .kept-number .ensures) (c .before .before .before .put .ensures) (omega arith) (omega arith) (omega arith))),
       omega (arith, e .on),
     )
 

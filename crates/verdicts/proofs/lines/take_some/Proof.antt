@@ -18,7 +18,9 @@ returns : tie.Need-returns
 returns c = search needs
 
 take-line-requires : tie.Need-take-line-requires
-take-line-requires c κs = let f = c .before .before .before .before .take-frames .ensures in (omega (arith, f .within), omega (arith, few-written f, same-buffer (omega arith) f, f .on, f .within))
+take-line-requires c κs =
+    let f = c .before .before .before .before .take-frames .ensures in
+    (omega (arith, f .within), omega (arith, few-written f, same-buffer (omega arith) f, f .on, f .within))
 
 same-length-2 : tie.Need-same-length-2
 same-length-2 c = search needs
