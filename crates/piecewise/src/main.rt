@@ -1,6 +1,6 @@
-// Runs the rules' example of a sheet through `verdicts` in pieces of each length, with small and large output buffers. Each run writes
+// Runs the rules' example of a sheet through `judging` in pieces of each length, with small and large output buffers. Each run writes
 // the example's answers; an empty input writes nothing.
-use verdicts::Unfinished;
+use judging::Unfinished;
 ghost use Prim.Native.Nat.{_≤_};
 
 fn least(a: usize, b: usize) -> usize
@@ -20,7 +20,7 @@ fn run(input: &[u8], size: usize, output: &mut [u8]) -> bool {
     while at < input.len() {
         let n = least(input.len() - at, size);
         let end = at + n;
-        let done = verdicts::judge_piece(state, &input[at..end], output);
+        let done = judging::judge_piece(state, &input[at..end], output);
         let written = done.written;
         let consumed = done.consumed;
         let next = done.state;
@@ -33,7 +33,7 @@ fn run(input: &[u8], size: usize, output: &mut [u8]) -> bool {
         state = next;
         at += consumed;
     }
-    let last = verdicts::finish(state);
+    let last = judging::finish(state);
     let bytes = last.bytes;
     let count = last.count;
     write(&bytes[..count])

@@ -1,17 +1,17 @@
 // The sheet program: frames from standard input, one a line, and their answer numbers to standard output. All that matters is in
-// `verdicts`; here is only reading and writing.
-use verdicts::Progress;
-use verdicts::Unfinished;
+// `judging`; here is only reading and writing.
+use judging::Progress;
+use judging::Unfinished;
 ghost use Prim.Native.Nat.{_*_, _≤_};
 ghost use lib.ListN.{length};
-ghost use Rattle.verdicts.specs.Kept.{Judged};
+ghost use Rattle.judging.specs.Kept.{Judged};
 
 // Judges a piece for whose answers output has room: all of it is taken.
 fn judge(state: Unfinished, piece: &[u8], output: &mut [u8]) -> Progress
     requires { ⌜ length (now piece) * 3 ≤ length (now output) ⌝ }
     ensures { λ r. ⌜ Judged state (now (piece .entry)) (now (output .entry)) r (now (output .exit)) ⌝ }
 {
-    verdicts::judge_piece(state, piece, output)
+    judging::judge_piece(state, piece, output)
 }
 
 // What one turn leaves: the state for the next, and whether there is one.
@@ -73,7 +73,7 @@ fn read_all(input: &mut [u8], output: &mut [u8]) -> Unfinished
 fn main() {
     let mut input = [0u8; 14336];
     let mut output = [0u8; 43008];
-    let last = verdicts::finish(read_all(&mut input, &mut output));
+    let last = judging::finish(read_all(&mut input, &mut output));
     let bytes = last.bytes;
     let count = last.count;
     stdio::write(b"sheet", &bytes[..count]);

@@ -1,25 +1,24 @@
 -- The verdict on a line, case by case: of another length, with another byte than a digit, and a frame.
--- And that the first 17 bytes of a line fix its verdict.
-use mathlib.Core.Path.{_≡_, refl, sym, ap, _∙_}
+use mathlib.Core.Path.{_≡_, refl, ap}
 use mathlib.Core.List.{List}
-use mathlib.Core.Bool.{Bool, true, false}
-use Prim.Native.Nat.{ℕ, _+_, _-_}
+use mathlib.Core.Bool.{Bool, true, false, _||_}
+use mathlib.Core.Option.{Option}
+use Prim.Native.Nat.{ℕ, _-_, _<_, min}
+use native.Mathlib.Decide.{decLt}
 use native.Mathlib.Omega.{arith}
-use lib.Dec.{ltb}
-use lib.ListN.{length, take, drop, getD}
-use lib.Seq.{take-all, length-take-le}
-use borrow.Author.Tests.{eq-eqb, ne-eqb, ltb-true, ltb-false}
+use lib.IntN.{ℤ, pos, _-ℤ_}
+use lib.ListN.{length}
+use lib.Signed.{ltZ}
+use borrow.Author.Tests.{eq-eqb, ne-eqb, lt-ltb, le-ltb}
 use Rattle.refusals.specs.Number.{numberOf}
 use Rattle.refusals.specs.declared.Refusal.{Refusal}
 use Rattle.refusals.proofs.Claims.{not-zero}
+use Rattle.counting.specs.Answers.{Calendar, lastYear, noDayAnswer, dayFor}
+use Rattle.calendar_rules.specs.Calendars.{calendar}
+use Rattle.calendar_rules.specs.Answers.{ofListed, dayAnswer}
 use Rattle.hex.specs.Digits.{sixteenDigits}
-use Rattle.frames.specs.declared.Frame.{Frame}
-use Rattle.frames.specs.declared.Reading.the-variants.{Fields}
-use Rattle.frames.specs.Frame.{fieldsOf, readingOf}
-use Rattle.frames.proofs.Claims.{is-fields}
-use Rattle.streaming.specs.Lines.{newline}
+use Rattle.frames.specs.Frame.{fieldsOf}
 use Rattle.verdicts.specs.Verdict.{against, verdictOn, verdictOf}
-use Rattle.verdicts.specs.Inner.{FrameAt}
 
 -- ---- a line that is no frame
 
@@ -35,15 +34,6 @@ pub frame : (line : List ℕ) → sixteenDigits line ≡ true → verdictOf line
 unfolding verdictOf
 frame line h = rw h
 
--- sixteen digits and a newline at `stop`, read and judged
-pub frame-at : (input : List ℕ) (from stop v : ℕ) (f : Frame) → getD input stop 0 ≡ newline → Fields f ≡ readingOf (take (stop - from) (drop from input))
-    → v ≡ verdictOn f → stop ≡ from + 16
-    → FrameAt input from v
-frame-at input from stop v f e d w h =
-    let l : stop - from ≡ 16 = omega arith in
-    let r = is-fields (take 16 (drop from input)) f (rw l at d) in
-    record { ends = rw h at e; digits = r .0; verdict = w ∙ ap verdictOn (r .1) ∙ sym (frame (take 16 (drop from input)) (r .0)) }
-
 -- ---- what date to day answers, against the frame's day
 
 pub same-day : (n : ℕ) → against (record { number = 0; day = n }) n ≡ 0
@@ -58,14 +48,27 @@ pub refused : (why : Refusal) (n : ℕ) → against (record { number = numberOf 
 unfolding against
 refused why n = rw (not-zero why)
 
--- ---- the first 17 bytes fix the verdict
+-- ---- a year after the last is refused alike, whichever it is
 
-pub first-bytes : (line : List ℕ) → verdictOf (take 17 line) ≡ verdictOf line
-first-bytes line = go (ltb 17 (length line)) refl
+late-alike : (c : ℕ) (y z : ℤ) (m d : ℕ) → ltZ lastYear y ≡ true → ltZ lastYear z ≡ true → dayAnswer c y m d ≡ dayAnswer c z m d
+unfolding dayAnswer dayFor
+late-alike c y z m d h k = go (calendar c)
   where
-    go : (c : Bool) → ltb 17 (length line) ≡ c → verdictOf (take 17 line) ≡ verdictOf line
-    go true e =
-        let h = ltb-true 17 (length line) e in
-        let k : length (take 17 line) ≡ 17 = length-take-le 17 line (omega arith) in
-        other-length (take 17 line) (λ x. omega arith) ∙ sym (other-length line (λ x. omega arith))
-    go false e = ap verdictOf (take-all 17 line (ltb-false 17 (length line) e))
+    or-true : (t : Bool) {u : Bool} → u ≡ true → (t || u) ≡ true
+    or-true true e = refl
+    or-true false e = e
+
+    go : (o : Option Calendar) → ofListed o (noDayAnswer 1) (λ K. dayFor K y m d) ≡ ofListed o (noDayAnswer 1) (λ K. dayFor K z m d)
+    go Option.none = refl
+    go (Option.some K) = rw (or-true (ltZ y (K .firstYear)) h, or-true (ltZ z (K .firstYear)) k)
+
+late : (n : ℕ) → 65535 < n → ltZ lastYear (pos n -ℤ pos 4712) ≡ true
+late n h = rw (le-ltb n 4712 (omega arith)) (lt-ltb 20000 (n - 4712) (omega arith))
+
+-- so a field of more than four digits may be read as 65536
+pub field-held : (c n m d : ℕ) → dayAnswer c (pos (min n 65536) -ℤ pos 4712) m d ≡ dayAnswer c (pos n -ℤ pos 4712) m d
+field-held c n m d = go (decLt n 65536)
+  where
+    go : Dec (n < 65536) → dayAnswer c (pos (min n 65536) -ℤ pos 4712) m d ≡ dayAnswer c (pos n -ℤ pos 4712) m d
+    go (yes h) = let e : min n 65536 ≡ n = omega arith in ap (λ (k : ℕ). dayAnswer c (pos k -ℤ pos 4712) m d) e
+    go (no h) = let e : min n 65536 ≡ 65536 = omega arith in late-alike c _ _ m d (rw e (late 65536 (omega arith))) (late n (omega arith))

@@ -5,7 +5,7 @@ use native.Mathlib.Omega.{arith}
 use borrow.Author.Needs.{needs}
 use lib.ListN.{length, take, drop, length-take}
 use lib.Seq.{length-take-le}
-use Rattle.verdicts.proofs.Piece.{written-within, consumed-within, finished-within}
+use Rattle.judging.proofs.Piece.{written-within, consumed-within, finished-within}
 use Rattle.piecewise.proofs.run.Statement.{statement}
 use Rattle.piecewise.proofs.run.Tie as tie
 

@@ -1,7 +1,7 @@
 -- `sheet::main` is safe: what the end of the input adds lies within its three bytes.
 use mathlib.Core.Path.{sym}
 use lib.Seq.{length-take-le}
-use Rattle.verdicts.proofs.Piece.{finished-within}
+use Rattle.judging.proofs.Piece.{finished-within}
 use borrow.Author.Needs.{needs}
 use Rattle.sheet.proofs.main.Statement.{statement}
 use Rattle.sheet.proofs.main.Tie as tie

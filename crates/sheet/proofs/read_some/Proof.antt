@@ -1,7 +1,7 @@
 -- `sheet::read_some` is safe: what was written lies within the output.
 use mathlib.Core.Path.{sym}
 use lib.Seq.{length-take-le}
-use Rattle.verdicts.proofs.Piece.{written-within}
+use Rattle.judging.proofs.Piece.{written-within}
 use borrow.Author.Needs.{needs}
 use Rattle.sheet.proofs.read_some.Statement.{statement}
 use Rattle.sheet.proofs.read_some.Tie as tie

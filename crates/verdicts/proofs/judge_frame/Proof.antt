@@ -1,33 +1,23 @@
 -- `verdicts::judge_frame` meets its contract: what date to day answers for the date, against the frame's day.
 use mathlib.Core.Path.{_≡_, sym, ap, _∙_}
-use Prim.Native.Nat.{ℕ, _<_}
+use Prim.Native.Nat.{ℕ, min}
 use native.Mathlib.Omega.{arith}
 use lib.IntN.{pos, _-ℤ_}
 use mir.Syntax.{w64}
 use mir.Val.{toZ, ofZ}
-use Rattle.calendar_rules.specs.Answers.{dayAnswer}
+use mir.ValLaws.{toZ-ofZ}
+use Rattle.counting.specs.Answers.{DayAnswer}
+use Rattle.frames.proofs.Years.{small}
 use Rattle.calendars.specs.Paper.{dayPaper}
 use Rattle.calendars.specs.declared.Day.{Day}
-use Rattle.frames.specs.declared.Frame.{Frame}
-use Rattle.frames.proofs.Years.{year-fits, year-read}
 use Rattle.verdicts.specs.Verdict.{against, verdictOn}
-use Rattle.verdicts.proofs.Verdicts.{same-day, other-day, refused}
+use Rattle.verdicts.proofs.Verdicts.{same-day, other-day, refused, field-held}
 use borrow.Author.Needs.{needs}
 use Rattle.verdicts.proofs.judge_frame.Statement.{statement}
 use Rattle.verdicts.proofs.judge_frame.Tie as tie
 
--- what date to day answers, against the frame's day, is the verdict
-judged : (f : Frame) (r : Day) → f .year < 65536
-    → dayPaper r ≡ dayAnswer (f .calendar) (toZ w64 (ofZ w64 (toZ w64 (f .year) -ℤ pos 4712))) (f .month) (f .day)
-    → verdictOn f ≡ against (dayPaper r) (f .number)
-unfolding verdictOn
-judged f r n h = rw (h, year-read (f .year) n)
-
-cast-t5 : tie.Need-cast-t5
-cast-t5 c = search needs
-
-sub-t6 : tie.Need-sub-t6
-sub-t6 c = year-fits (c .before .args .f .year) _ (c .before .pre) (omega arith)
+year-of-requires : tie.Need-year-of-requires
+year-of-requires c κs = search needs
 
 date-to-day-requires : tie.Need-date-to-day-requires
 date-to-day-requires c κs = search needs
@@ -38,12 +28,18 @@ enum-known-day c = search needs
 enum-known-why : tie.Need-enum-known-why
 enum-known-why c = search needs
 
+-- the year that is handed on
+year : (c : tie.After-year-of) → toZ w64 (ofZ w64 (c .year-of .result)) ≡ pos (min (c .before .args .f .year) 65536) -ℤ pos 4712
+year c = rw (c .year-of .ensures) (toZ-ofZ w64 _ (small (min (c .before .args .f .year) 65536) 4711 (omega arith) (omega arith)))
+
 -- the verdict, once it is known what date to day answers
 answered : (c : tie.After-date-to-day) (r : Day) → c .date-to-day .result ≡ r
     → let f = c .before .before .args .f in verdictOn f ≡ against (dayPaper r) (f .number)
+unfolding verdictOn
 answered c r e =
     let f = c .before .before .args .f in
-    judged f (c .date-to-day .result) (c .before .before .pre) (c .date-to-day .ensures) ∙ ap (λ (x : Day). against (dayPaper x) (f .number)) e
+    let day = rw (year (c .before)) at (c .date-to-day .ensures) in
+    ap (λ (x : DayAnswer). against x (f .number)) (sym (field-held (f .calendar) (f .year) (f .month) (f .day)) ∙ sym day ∙ ap dayPaper e)
 
 returns : tie.Need-returns
 returns c =
@@ -66,8 +62,7 @@ pub judge-frame-spec : {M : Type 1} → statement M
 judge-frame-spec =
     tie.close
     (tie.spec
-    cast-t5
-    sub-t6
+    year-of-requires
     date-to-day-requires
     enum-known-day
     enum-known-why

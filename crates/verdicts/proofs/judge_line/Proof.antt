@@ -1,6 +1,6 @@
 -- `verdicts::judge_line` meets its contract.
 use mathlib.Core.Path.{sym, ap, _∙_}
-use Rattle.frames.proofs.Claims.{is-fields, is-malformed, read-narrow}
+use Rattle.frames.proofs.Claims.{is-fields, is-malformed}
 use Rattle.verdicts.specs.Verdict.{verdictOn}
 use Rattle.verdicts.proofs.Verdicts.{no-frame, frame}
 use borrow.Author.Needs.{needs}
@@ -14,7 +14,7 @@ enum-known-f : tie.Need-enum-known-f
 enum-known-f c = search needs
 
 judge-frame-requires : tie.Need-judge-frame-requires
-judge-frame-requires c κs = read-narrow _ _ (sym (c .before .f .given .1) ∙ c .before .before .before .read .ensures) .year
+judge-frame-requires c κs = search needs
 
 enum-told : tie.Need-enum-told
 enum-told c = search needs

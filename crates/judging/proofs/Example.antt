@@ -1,0 +1,29 @@
+-- The rules' example of a sheet, computed by the definitions.
+use mathlib.Core.Path.{_≡_, refl}
+use mathlib.Core.List.{List, [], _∷_, _++_}
+use Prim.Native.Nat.{ℕ}
+use Rattle.counting.specs.Calendar.{total, start, dayOf}
+use Rattle.counting.specs.Answers.{years, dayFor}
+use Rattle.calendar_rules.specs.Calendars.{lookup, calendar}
+use Rattle.calendar_rules.specs.Answers.{dayAnswer}
+use Rattle.hex.specs.Digits.{digitOf, allDigits, sixteenDigits, numberFrom, field, writtenIn}
+use Rattle.frames.specs.Frame.{fieldsOf}
+use Rattle.streaming.specs.Lines.{linesOf, replies}
+use Rattle.verdicts.specs.Verdict.{against, verdictOn, verdictOf}
+use Rattle.judging.specs.Sheet.{twoDigits, sheetOf}
+
+-- 0b1a380101256859, 0b1a38010125685a, xyz
+abbrev pub input : List ℕ
+input =
+    (48 ∷ 98 ∷ 49 ∷ 97 ∷ 51 ∷ 56 ∷ 48 ∷ 49 ∷ 48 ∷ 49 ∷ 50 ∷ 53 ∷ 54 ∷ 56 ∷ 53 ∷ 57 ∷ 10 ∷ [])
+    ++ (48 ∷ 98 ∷ 49 ∷ 97 ∷ 51 ∷ 56 ∷ 48 ∷ 49 ∷ 48 ∷ 49 ∷ 50 ∷ 53 ∷ 54 ∷ 56 ∷ 53 ∷ 97 ∷ 10 ∷ [])
+    ++ (120 ∷ 121 ∷ 122 ∷ [])
+
+-- 00, 09, 08
+abbrev pub output : List ℕ
+output = 48 ∷ 48 ∷ 10 ∷ 48 ∷ 57 ∷ 10 ∷ 48 ∷ 56 ∷ 10 ∷ []
+
+pub example : sheetOf input ≡ output
+unfolding sheetOf linesOf replies twoDigits writtenIn verdictOf verdictOn fieldsOf against sixteenDigits allDigits digitOf numberFrom field
+    dayAnswer calendar lookup dayFor years dayOf start total
+example = refl

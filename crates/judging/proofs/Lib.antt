@@ -1,0 +1,4 @@
+pub mod Claims
+pub mod Example
+pub mod FirstBytes
+pub mod Piece
