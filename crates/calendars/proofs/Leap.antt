@@ -12,7 +12,13 @@ plus-none a x k e = ap (λ (n : ℕ). x + n * a) e ∙ omega arith
 plus-one : (a x k : ℕ) → k ≡ 1 → x + k * a ≡ x + a
 plus-one a x k e = ap (λ (n : ℕ). x + n * a) e ∙ omega arith
 
-module _ (a s b lo mi hi lo1 mi1 hi1 : ℕ) (k : Kin a s) (n : a ≡ 15 → ⊥) (w : WordsOf (2 * (a / 2)) b lo mi hi lo1 mi1 hi1) where
+-- each sum fits in a word
+pub record SumsFit (a s lo mi hi lo1 mi1 hi1 : ℕ) : Type 0 where
+  pub low : lo + (s - a) * lo1 ≤ 9223372036854775807
+  pub mid : mi + (s - a) * mi1 ≤ 9223372036854775807
+  pub high : hi + (s - a) * hi1 ≤ 9223372036854775807
+
+module _ {a s b lo mi hi lo1 mi1 hi1 : ℕ} (k : Kin a s) (n : a ≡ 15 → ⊥) (w : WordsOf (2 * (a / 2)) b lo mi hi lo1 mi1 hi1) where
   even : 2 * (a / 2) ≡ a
   even = let m : a < 15 = omega (arith, n, k .high) in omega (arith, k .even m)
 
@@ -37,12 +43,10 @@ module _ (a s b lo mi hi lo1 mi1 hi1 : ℕ) (k : Kin a s) (n : a ≡ 15 → ⊥)
           let d : s - a ≡ 0 = omega arith in
           rw (plus-none lo1 lo (s - a) d, plus-none mi1 mi (s - a) d, plus-none hi1 hi (s - a) d) (rw e at (w .common))
 
-  -- the sums fit in a word
-  pub low-small : lo + (s - a) * lo1 ≤ 9223372036854775807
-  low-small = omega (arith, leap-totals .low-is, word-small s 0 (k .small) (omega arith))
-
-  pub mid-small : mi + (s - a) * mi1 ≤ 9223372036854775807
-  mid-small = omega (arith, leap-totals .mid-is, word-small s 1 (k .small) (omega arith))
-
-  pub high-small : hi + (s - a) * hi1 ≤ 9223372036854775807
-  high-small = omega (arith, leap-totals .high-is, word-small s 2 (k .small) (omega arith))
+  pub sums-fit : SumsFit a s lo mi hi lo1 mi1 hi1
+  sums-fit =
+      record {
+        low = omega (arith, leap-totals .low-is, word-small s 0 (k .small) (omega arith));
+        mid = omega (arith, leap-totals .mid-is, word-small s 1 (k .small) (omega arith));
+        high = omega (arith, leap-totals .high-is, word-small s 2 (k .small) (omega arith));
+      }

@@ -7,8 +7,8 @@ use calendars::Length;
 use easter::EasterDate;
 use fitting::Fitted;
 use fitting::Line;
-use fitting::Unfolded;
 use refusals::Refusal;
+use unfolding::Unfolded;
 ghost use mathlib.Core.Path.{_≡_};
 ghost use Rattle.calendar_rules.specs.Answers.{dayAnswer, dateAnswer, lengthAnswer};
 ghost use Rattle.calendars.specs.Paper.{dayPaper, datePaper, lengthPaper};
@@ -16,7 +16,8 @@ ghost use Rattle.refusals.specs.Number.{numberOf};
 ghost use Rattle.lines.specs.Fit.{fitOf};
 ghost use Rattle.lines.specs.Unfold.{unfoldNumber, unfoldBuffer};
 ghost use Rattle.computus.specs.Rule.{easterAnswer};
-ghost use Rattle.fitting.specs.Paper.{fitPaper, unfoldPaper};
+ghost use Rattle.fitting.specs.Paper.{fitPaper};
+ghost use Rattle.unfolding.specs.Paper.{unfoldPaper};
 ghost use Rattle.easter.specs.Paper.{easterPaper};
 ghost use Rattle.verdicts.specs.Verdict.{verdictOf};
 ghost use Rattle.exports.specs.Fields.{dayFields, dateFields, lengthFields, easterFields, lineFields};
@@ -193,7 +194,7 @@ pub extern "C" fn ijok_unfold(a: u64, b: u64, r: u64, count: usize, buffer: &mut
     ensures answer { λ n. ⌜ n ≡ unfoldNumber a b r count (now (buffer .entry)) ⌝ }
     ensures whole { λ n. ⌜ now (buffer .exit) ≡ unfoldBuffer a b r count (now (buffer .entry)) ⌝ }
 {
-    unfold_number(fitting::unfold(Line { a, b, r }, count, buffer))
+    unfold_number(unfolding::unfold(Line { a, b, r }, count, buffer))
 }
 
 fn unfold_number(answer: Unfolded) -> u64

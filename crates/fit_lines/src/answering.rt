@@ -10,12 +10,11 @@ use crate::writing::put_number;
 use crate::writing::put_numbers;
 use fitting::Fitted;
 use fitting::Line;
-use fitting::Unfolded;
+use fitting::MOST_LENGTHS;
 use refusals::Refusal;
+use unfolding::Unfolded;
 ghost use Prim.Native.Nat.{_≤_};
 ghost use lib.ListN.{length};
-
-const MOST_LENGTHS: usize = 512;
 
 // The first `count` of the numbers, or all where they are fewer.
 fn front(numbers: &[u64], count: usize) -> &[u64] {
@@ -47,9 +46,9 @@ fn answer_fit(sink: Sink, code: &[u64], out: &mut [u8]) -> Sink {
 // Unfolds into the first `room` of the places, or into all where they are fewer.
 fn unfold_within(room: usize, line: Line, count: usize, lengths: &mut [u64]) -> Unfolded {
     if room <= lengths.len() {
-        fitting::unfold(line, count, &mut lengths[..room])
+        unfolding::unfold(line, count, &mut lengths[..room])
     } else {
-        fitting::unfold(line, count, lengths)
+        unfolding::unfold(line, count, lengths)
     }
 }
 

@@ -2,14 +2,14 @@
 use mathlib.Core.Path.{_≡_, sym, ap, _∙_}
 use mir.Syntax.{w64}
 use mir.ValLaws.{toZ-ofZ}
-use Rattle.calendars.specs.Parts.{monthPaper}
-use Rattle.calendars.specs.Parts.{MonthAnswer, monthAnswer}
+use Rattle.calendars.specs.Parts.{MonthAnswer, monthAnswer, monthPaper}
 use Rattle.calendars.proofs.Answers.{day-there, there-small, day-refused}
 use borrow.Author.Needs.{needs}
 use Rattle.calendars.proofs.date_to_day.Statement.{statement}
 use Rattle.calendars.proofs.date_to_day.Tie as tie
 
-answered : (a : tie.After-month-of) → let s = a .before .before in monthPaper (a .month-of .result) ≡ monthAnswer (s .args .calendar) (s .args .date .year) (s .args .date .month)
+answered : (a : tie.After-month-of) → let s = a .before .before in
+    monthPaper (a .month-of .result) ≡ monthAnswer (s .args .calendar) (s .args .date .year) (s .args .date .month)
 answered a = rw (toZ-ofZ w64 (a .before .before .args .date .year) (record { sfits = a .before .struct-told .given .0 .1 })) at (a .month-of .ensures)
 
 there : (k : tie.After-known-told) → let s = k .before .before .before .before .before in

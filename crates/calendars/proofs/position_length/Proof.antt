@@ -2,14 +2,14 @@
 use mathlib.Core.Path.{_≡_, sym, ap, _∙_}
 use mir.Syntax.{w64}
 use mir.ValLaws.{toZ-ofZ}
-use Rattle.calendars.specs.Parts.{monthPaper}
-use Rattle.calendars.specs.Parts.{monthAnswer}
+use Rattle.calendars.specs.Parts.{monthAnswer, monthPaper}
 use Rattle.calendars.proofs.Answers.{length-there, length-refused}
 use borrow.Author.Needs.{needs}
 use Rattle.calendars.proofs.position_length.Statement.{statement}
 use Rattle.calendars.proofs.position_length.Tie as tie
 
-answered : (a : tie.After-month-of) → let s = a .before in monthPaper (a .month-of .result) ≡ monthAnswer (s .args .calendar) (s .args .year) (s .args .position)
+answered : (a : tie.After-month-of) → let s = a .before in
+    monthPaper (a .month-of .result) ≡ monthAnswer (s .args .calendar) (s .args .year) (s .args .position)
 answered a = rw (toZ-ofZ w64 (a .before .args .year) (a .before .fits .year)) at (a .month-of .ensures)
 
 month-of-requires : tie.Need-month-of-requires

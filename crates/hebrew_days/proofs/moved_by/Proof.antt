@@ -48,8 +48,11 @@ returns-3 c =
 returns-4 : tie.Need-returns-4
 unfolding moved
 returns-4 c =
-    let a = c .before .before .before in
-    (rw (lt-leb 19440 (entry a .args .hour) (omega (arith, c .before .before .if1 .left)), second-is a, c .before .if2 .left, third-is a, c .if3 .left) (omega arith), omega arith)
+    let a = c .before .before .before in (
+      rw (lt-leb 19440 (entry a .args .hour) (omega (arith, c .before .before .if1 .left)), second-is a, c .before .if2 .left, third-is a, c .if3 .left)
+          (omega arith),
+      omega arith,
+    )
 
 pub moved-by-spec : {M : Type 1} → statement M
 moved-by-spec =

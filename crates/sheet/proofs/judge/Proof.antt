@@ -20,7 +20,8 @@ returns : tie.Need-returns
 returns c =
     let a = c .before .before .before .before .before .before .args in
     let h : length (a .piece .now) ≤ min (length (a .piece .now)) (length (a .output .now) / 3) = omega arith in
-    subst (λ (l : List ℕ). Judged (a .state) l (a .output .now) (c .before .before .judge-piece .result) (c .before .before .judge-piece .last .1 .1 .0)) (take-all _ (a .piece .now) h) (c .before .before .judge-piece .ensures)
+    let j = c .before .before .judge-piece in
+    subst (λ (l : List ℕ). Judged (a .state) l (a .output .now) (j .result) (j .last .1 .1 .0)) (take-all _ (a .piece .now) h) (j .ensures)
 
 pub judge-spec : {M : Type 1} → statement M
 judge-spec = tie.close (tie.spec judge-piece-requires same-length returns)

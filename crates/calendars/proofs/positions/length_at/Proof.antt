@@ -18,7 +18,9 @@ places-of-requires c κs = search needs
 returns : tie.Need-returns
 returns c =
     let s = c .before .before in
-    sym (List·getD-eq-default (shape (s .args .s)) 0 {n = s .args .position - 1} (omega (arith, few (s .args .s) (s .pre .0 .small), c .before .places-of .ensures, c .if1 .taken)))
+    sym
+    (List·getD-eq-default (shape (s .args .s)) 0 {n = s .args .position - 1}
+    (omega (arith, few (s .args .s) (s .pre .0 .small), c .before .places-of .ensures, c .if1 .taken)))
 
 sub-month-days : tie.Need-sub-month-days
 sub-month-days c = search needs

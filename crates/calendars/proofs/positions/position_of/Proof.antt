@@ -13,7 +13,8 @@ step-requires c κs = search needs
 step-requires-2 : tie.Need-step-requires-2
 step-requires-2 c κs =
     let s = c .before .before in
-    (s .pre .0, step-inside (s .args .s) (s .args .day) (s .pre .0 .small) (s .pre .1) (c .before .near .result) (c .step .result) (c .before .near .ensures) (c .step .ensures))
+    let n = c .before .near in
+    (s .pre .0, step-inside (s .args .s) (s .args .day) (s .pre .0 .small) (s .pre .1) (n .result) (c .step .result) (n .ensures) (c .step .ensures))
 
 returns : tie.Need-returns
 returns c =
