@@ -6,6 +6,7 @@ ghost use Rattle.lines.specs.BandTest.{within};
 ghost use Rattle.lines.specs.Fit.{Within, fitOf};
 ghost use Rattle.fitting.specs.Paper.{fitPaper};
 
+// The limits of a code, fitted or unfolded.
 pub const MOST_LENGTHS: usize = 512;
 
 pub const LONGEST: u64 = 400;
