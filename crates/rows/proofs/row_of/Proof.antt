@@ -2,7 +2,8 @@
 use mathlib.Core.Path.{refl}
 use native.Mathlib.Omega.{arith}
 use Rattle.counting.specs.Calendar.{total}
-use Rattle.calendar_rules.specs.Calendars.{egyptian, armenian, khwarizmian, persian, ethiopian, coptic, republican, macedonian, syrian, julian, gregorian, islamicA, islamicB, bahai, saka, hebrew, lookup, calendar}
+use Rattle.calendar_rules.specs.Calendars.{egyptian, armenian, khwarizmian, persian, ethiopian, coptic, republican, macedonian, syrian}
+use Rattle.calendar_rules.specs.Calendars.{julian, gregorian, islamicA, islamicB, bahai, saka, hebrew, lookup, calendar}
 use Rattle.calendar_rules.specs.Shapes.{leapsBelow, daysBelow}
 use Rattle.calendar_rules.proofs.Listed.{not-listed}
 use Rattle.calendar_rules.proofs.Rows as R
