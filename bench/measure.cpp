@@ -15,6 +15,10 @@
 #include <string>
 #include <vector>
 
+#ifdef WITH_LIBHDATE
+#include <hdate.h>
+#endif
+
 #include "../include/ijok.h"
 #include "../tests/independent/random.h"
 
@@ -39,11 +43,10 @@ double middle(std::vector<double> times) {
     return times[times.size() / 2];
 }
 
-// The median processor time of each way, in nanoseconds a unit, and the median over the rounds of the first's ratio to the second's: the two of a round run one after the
-// other, so that a ratio holds where the machine is shared and its speed changes.
+// The median processor time of each way, in nanoseconds a unit, and the median over the rounds of the first's ratio to each: those of a round run one after the other, so
+// that a ratio holds where the machine is shared and its speed changes.
 struct Medians {
-    std::vector<double> times;
-    double ratio;
+    std::vector<double> times, ratios;
 };
 
 // Several ways to do the same amount of work, measured in turn in each round.
@@ -60,10 +63,12 @@ struct Race {
                 if (round >= 0) times[w].push_back(ns / units);
             }
         Medians result;
-        std::vector<double> ratios;
-        for (int round = 0; round < rounds; ++round) ratios.push_back(times[0][size_t(round)] / times[1][size_t(round)]);
-        for (auto &t : times) result.times.push_back(middle(t));
-        result.ratio = middle(ratios);
+        for (auto &t : times) {
+            std::vector<double> ratios;
+            for (size_t round = 0; round < t.size(); ++round) ratios.push_back(times[0][round] / t[round]);
+            result.times.push_back(middle(t));
+            result.ratios.push_back(middle(ratios));
+        }
         return result;
     }
 };
@@ -134,9 +139,9 @@ std::function<uint64_t()> over(const std::vector<T> &inputs, F f) {
 void conversions() {
     constexpr int COUNT = 20000, ROUNDS = 201;
     std::printf("Conversions of %d random days of each calendar's range, medians of %d rounds, ns each; a ratio is the median of the rounds' ratios.\n", COUNT, ROUNDS);
-    std::printf("chrono: libstdc++'s std::chrono::year_month_day and sys_days on the same days (Gregorian), inlined in the loop.\n\n");
+    std::printf("chrono: libstdc++'s std::chrono::year_month_day and sys_days on the same days (Gregorian), behind a call as ours is; date to day with the date checked.\n\n");
     std::printf("| Calendar | day to date | chrono | ratio | date to day | chrono | ratio |\n|---|---|---|---|---|---|---|\n");
-    std::vector<double> called_there, called_back, checked_back;
+    std::vector<double> inlined_there, inlined_back, unchecked_back;
     Random random{1};
     for (const Row &row : ROWS) {
         std::vector<uint64_t> days;
@@ -152,18 +157,67 @@ void conversions() {
             if (date.number || back.number || back.day != n) std::printf("calendar %" PRIu64 " disagrees with itself on day %" PRIu64 "\n", c, n);
             if (c == 11 && (date.year != by_chrono.year || date.month != by_chrono.month || date.day != by_chrono.day)) std::printf("chrono disagrees on day %" PRIu64 "\n", n);
         }
-        Race to_date{{over(days, [c](uint64_t n) { return ijok_day_to_date(c, n); }), over(days, [](uint64_t n) { return chrono_date(n); }), over(days, [](uint64_t n) { return chrono_date_called(n); })}};
-        Race to_day{{over(dates, [c](const ijok_date &d) { return ijok_date_to_day(c, d.year, d.month, d.day); }), over(gregorian, [](const ijok_date &d) { return chrono_day(d.year, d.month, d.day); }),
-                     over(gregorian, [](const ijok_date &d) { return chrono_day_called(d.year, d.month, d.day); }), over(gregorian, [](const ijok_date &d) { return chrono_day_checked(d.year, d.month, d.day); })}};
+        Race to_date{{over(days, [c](uint64_t n) { return ijok_day_to_date(c, n); }), over(days, [](uint64_t n) { return chrono_date_called(n); }), over(days, [](uint64_t n) { return chrono_date(n); })}};
+        Race to_day{{over(dates, [c](const ijok_date &d) { return ijok_date_to_day(c, d.year, d.month, d.day); }), over(gregorian, [](const ijok_date &d) { return chrono_day_checked(d.year, d.month, d.day); }),
+                     over(gregorian, [](const ijok_date &d) { return chrono_day(d.year, d.month, d.day); }), over(gregorian, [](const ijok_date &d) { return chrono_day_called(d.year, d.month, d.day); })}};
         auto there = to_date.medians(ROUNDS, COUNT), back = to_day.medians(ROUNDS, COUNT);
-        called_there.push_back(there.times[2]);
-        called_back.push_back(back.times[2]);
-        checked_back.push_back(back.times[3]);
-        std::printf("| %s | %.1f | %.1f | %.1f | %.1f | %.1f | %.1f |\n", row.name, there.times[0], there.times[1], there.ratio, back.times[0], back.times[1], back.ratio);
+        inlined_there.push_back(there.times[2]);
+        inlined_back.push_back(back.times[2]);
+        unchecked_back.push_back(back.times[3]);
+        std::printf("| %s | %.1f | %.1f | %.2f | %.1f | %.1f | %.2f |\n", row.name, there.times[0], there.times[1], there.ratios[1], back.times[0], back.times[1], back.ratios[1]);
         std::fflush(stdout);
     }
-    std::printf("\nchrono behind a call, as ours is: %.1f day to date, %.1f date to day, %.1f with the date checked (medians over the rows).\n", middle(called_there), middle(called_back), middle(checked_back));
+    std::printf("\nchrono inlined in the loop: %.1f day to date, %.1f date to day; behind a call with nothing checked: %.1f date to day (medians over the rows).\n", middle(inlined_there), middle(inlined_back),
+                middle(unchecked_back));
 }
+
+// ---- the Hebrew calendar against libhdate, where it is installed
+
+#ifdef WITH_LIBHDATE
+// Its months: 1 to 12, and 13 and 14 for the two Adars of a leap year. Ours: position 6 is Adar or the first Adar, 7 the second.
+uint64_t position_of(int month) { return month > 12 ? uint64_t(month) - 7 : month > 6 ? uint64_t(month) + 1 : uint64_t(month); }
+
+struct HebrewDate {
+    ijok_date ours;
+    int year, month, day;
+};
+
+void hebrew() {
+    constexpr int COUNT = 20000, ROUNDS = 201;
+    constexpr uint64_t FROM = 1715120, TO = 3300000;  // libhdate counts from the year 3744, and in 32 bits, which do not hold later days
+    std::printf("\nThe Hebrew calendar against libhdate (hdate_jd_to_hdate, hdate_hdate_to_jd, which check nothing), %d random days from %" PRIu64 " to %" PRIu64 ", medians of %d rounds, ns each.\n", COUNT, FROM, TO,
+                ROUNDS);
+    Random random{4};
+    int wrong = 0;
+    std::vector<uint64_t> days;
+    std::vector<HebrewDate> dates;
+    for (int k = 0; k < COUNT; ++k) {
+        uint64_t n = random.between(FROM, TO);
+        HebrewDate date{ijok_day_to_date(18, n), 0, 0, 0};
+        int here, next;
+        hdate_jd_to_hdate(int(n), &date.day, &date.month, &date.year, &here, &next);
+        wrong += date.ours.number || date.ours.year != date.year || date.ours.month != position_of(date.month) || date.ours.day != uint64_t(date.day);
+        days.push_back(n);
+        dates.push_back(date);
+    }
+    std::printf("libhdate disagrees on %d of these days.\n\n| Direction | ours | libhdate | ratio |\n|---|---|---|---|\n", wrong);
+    auto by_libhdate = [](uint64_t n) -> uint64_t {
+        int day, month, year, here, next;
+        hdate_jd_to_hdate(int(n), &day, &month, &year, &here, &next);
+        return uint64_t(day) + uint64_t(month) + uint64_t(year);
+    };
+    auto back_by_libhdate = [](const HebrewDate &d) -> uint64_t {
+        int here, next;
+        return uint64_t(hdate_hdate_to_jd(d.day, d.month, d.year, &here, &next));
+    };
+    Race to_date{{over(days, [](uint64_t n) { return ijok_day_to_date(18, n); }), over(days, by_libhdate)}};
+    Race to_day{{over(dates, [](const HebrewDate &d) { return ijok_date_to_day(18, d.ours.year, d.ours.month, d.ours.day); }), over(dates, back_by_libhdate)}};
+    auto there = to_date.medians(ROUNDS, COUNT), back = to_day.medians(ROUNDS, COUNT);
+    std::printf("| day to date | %.1f | %.1f | %.3f |\n| date to day | %.1f | %.1f | %.3f |\n", there.times[0], there.times[1], there.ratios[1], back.times[0], back.times[1], back.ratios[1]);
+}
+#else
+void hebrew() { std::printf("\nlibhdate (Debian's libhdate-dev) is not installed: the Hebrew calendar is not measured against it.\n"); }
+#endif
 
 // ---- fits
 
@@ -209,7 +263,7 @@ void fits() {
         }
         Race race{{over(codes, [](const Code &c) { return ijok_fit(c.data(), c.size()); }), over(codes, [](const Code &c) { return plain_fit(c.data(), c.size()); })}};
         auto t = race.medians(ROUNDS, COUNT);
-        std::printf("| %s | %.1f | %.1f | %.2f |\n", good ? "accepted with a denominator above 256" : "refused only at the last length", t.times[0] / 1000, t.times[1] / 1000, t.ratio);
+        std::printf("| %s | %.1f | %.1f | %.2f |\n", good ? "accepted with a denominator above 256" : "refused only at the last length", t.times[0] / 1000, t.times[1] / 1000, t.ratios[1]);
         std::fflush(stdout);
     }
 }
@@ -261,7 +315,7 @@ void sheets(const char *sheet, const char *digits, const char *file) {
         write_frames(file, ordered);
         Race race{{[=] { return run(sheet, file); }, [=] { return run(digits, file); }}};
         auto t = race.medians(ROUNDS, FRAMES);
-        std::printf("| %s | %.1f | %.1f | %.2f |\n", ordered ? "Gregorian days in order" : "any days of all calendars", t.times[0], t.times[1], t.ratio);
+        std::printf("| %s | %.1f | %.1f | %.2f |\n", ordered ? "Gregorian days in order" : "any days of all calendars", t.times[0], t.times[1], t.ratios[1]);
         std::fflush(stdout);
     }
 }
@@ -270,6 +324,7 @@ void sheets(const char *sheet, const char *digits, const char *file) {
 
 int main(int argc, char **argv) {
     conversions();
+    hebrew();
     fits();
     if (argc == 4) sheets(argv[1], argv[2], argv[3]);
     std::fprintf(stderr, "(sum of all results, so that none is left out: %" PRIu64 ")\n", kept);

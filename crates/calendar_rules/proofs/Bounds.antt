@@ -1,32 +1,43 @@
--- What holds of calendars whose years each have one of the shapes, as the years of every rule have: a year has 353 to 385 days and at most 20 positions, begins
--- accordingly, and its first position has days.
+-- What holds of calendars whose years each have 353 to 385 days and begin with a position that has days, as the years of every row do.
 use mathlib.Core.Path.{_≡_, refl, ap, _∙_}
-use mathlib.Core.Bool.{Bool, cond}
-use mathlib.Core.List.{List}
-use Prim.Native.Nat.{ℕ, _+_, _-_, _*_, _≤_, _<_}
+use mathlib.Core.Bool.{Bool, true, false, _&&_}
+use mathlib.Core.List.{List, []}
+use Prim.Native.Nat.{ℕ, _*_, _≤_}
 use native.Mathlib.Omega.{arith}
-use lib.ListN.{length, take}
+use lib.Dec.{eqb, leb}
+use lib.IntN.{ℤ}
+use lib.ListN.{take, getD}
+use borrow.Author.Tests.{eqb-true, leb-true}
+use Rattle.basics.specs.Every.{every}
+use Rattle.basics.proofs.Cases.{both}
+use Rattle.basics.proofs.Every.{every-at}
 use Rattle.counting.specs.Calendar.{total, start, firstFrom}
-use Rattle.counting.specs.InYear.{InYear}
+use Rattle.counting.specs.Answers.{years}
 use Rattle.counting.proofs.Totals.{total-take-le}
 use Rattle.counting.proofs.Starts as S
-use Rattle.hebrew.specs.Hebrew.{leap, yearDays}
-use Rattle.hebrew.specs.Years.{years as hebrewYears}
-use Rattle.hebrew.proofs.SixKinds.{kindOf}
-use Rattle.calendar_rules.specs.Shapes.{shape, Common, Alone, fourthLeap, leapBy, islamicLeapAt, plainYears, fourthYears, leapByYears, islamicYears}
-use Rattle.calendar_rules.proofs.Years.{leap-kin}
-use Rattle.calendar_rules.proofs.HebrewYears.{hebrew-year}
-use Rattle.calendar_rules.proofs.Tables.{days-low, days-high, few, places-small, opens}
+use Rattle.hebrew.specs.Hebrew.{kinds}
+use Rattle.calendar_rules.specs.Calendars.{row, hebrew}
+use Rattle.calendar_rules.proofs.HebrewYears.{hebrew-kind}
 
--- every year has a shape
-pub record Shaped (L : ℕ → List ℕ) : Type 0 where
-  pub of : ℕ → ℕ
-  pub small : (i : ℕ) → of i < 21
-  pub is : (i : ℕ) → L i ≡ shape (of i)
+-- 353 to 385 days, and the first position has some
+unfoldable pub within : List ℕ → Bool
+within ls = leb 353 (total ls) && leb (total ls) 385 && eqb (firstFrom 1 ls) 1
 
-module _ {L : ℕ → List ℕ} (y : Shaped L) where
+-- as every year has
+pub record Bounded (L : ℕ → List ℕ) : Type 0 where
+  pub each : (i : ℕ) → within (L i) ≡ true
+
+module _ {L : ℕ → List ℕ} (y : Bounded L) where
+  parts : (i : ℕ) → (353 ≤ total (L i)) × (total (L i) ≤ 385) × (firstFrom 1 (L i) ≡ 1)
+  unfolding within
+  parts i =
+      let ls = L i in
+      let a = both (leb 353 (total ls) && leb (total ls) 385) (eqb (firstFrom 1 ls) 1) (y .each i) in
+      let b = both (leb 353 (total ls)) (leb (total ls) 385) (a .0) in
+      (leb-true 353 (total ls) (b .0), leb-true (total ls) 385 (b .1), eqb-true (firstFrom 1 ls) 1 (a .1))
+
   pub year-days : (i : ℕ) → (353 ≤ total (L i)) × (total (L i) ≤ 385)
-  year-days i = omega (arith, ap total (y .is i), days-low (y .of i) (y .small i), days-high (y .of i) (y .small i))
+  year-days i = let p = parts i in (p .0, p .1)
 
   pub has-days : (i : ℕ) → 1 ≤ total (L i)
   has-days i = omega (arith, year-days i)
@@ -37,47 +48,32 @@ module _ {L : ℕ → List ℕ} (y : Shaped L) where
   pub position-within : (i m : ℕ) → total (take m (L i)) ≤ 385
   position-within i m = omega (arith, total-take-le m (L i), year-days i)
 
-  pub positions-few : (i : ℕ) → length (L i) ≤ 20
-  positions-few i = omega (arith, ap length (y .is i), few (y .of i) (y .small i), places-small (y .of i))
-
-  -- a year that has begun by day n is not far on
-  pub year-within : (n i : ℕ) → InYear L n i → 353 * i ≤ n
-  year-within n i a = omega (arith, a .begun, start-within i)
-
   -- the first position has days
   pub year-opens : (i : ℕ) → firstFrom 1 (L i) ≡ 1
-  year-opens i = ap (firstFrom 1) (y .is i) ∙ opens (y .of i) (y .small i)
+  year-opens i = parts i .2
 
--- the same years
-pub same-years : {L M : ℕ → List ℕ} → ((i : ℕ) → M i ≡ L i) → Shaped L → Shaped M
-same-years e y = record { of = y .of; small = y .small; is = λ i. e i ∙ y .is i }
+-- ---- the rows
 
--- ---- the years of each rule
+-- a year of a row has one of two lists of lengths
+unfoldable pub bothWithin : (Bool → List ℕ) → Bool
+bothWithin positions = within (positions false) && within (positions true)
 
-pub plain-shaped : {s : ℕ} → Alone 365 s → Shaped (plainYears s)
-unfolding plainYears
-plain-shaped {s} c = record { of = λ i. s; small = λ i. omega (arith, c .low); is = λ i. refl }
+pub row-bounded : (first : ℤ) (day : ℕ) (positions : Bool → List ℕ) (leap : ℤ → Bool) → bothWithin positions ≡ true
+    → Bounded (years (row first day positions leap))
+unfolding years bothWithin
+row-bounded first day positions leap e =
+    let b = both (within (positions false)) (within (positions true)) e in
+    record { each = λ i. go b (leap _) }
+  where
+    go : (within (positions false) ≡ true) × (within (positions true) ≡ true) → (t : Bool) → within (positions t) ≡ true
+    go b true = b .1
+    go b false = b .0
 
--- years that are leap by a test
-leap-shaped : {L : ℕ → List ℕ} {days s : ℕ} → Common days s → (leap : ℕ → Bool) → ((i : ℕ) → L i ≡ shape (s + cond (leap i) 1 0)) → Shaped L
-leap-shaped {s = s} c leap e = record { of = λ i. s + cond (leap i) 1 0; small = λ i. leap-kin c (leap i) .small; is = e }
+-- and a Hebrew year one of six
+kinds-within : every (λ k. within (getD kinds k [])) 6 ≡ true
+unfolding every within total firstFrom
+kinds-within = refl
 
-pub fourth-shaped : (p : ℕ) {s : ℕ} → Common 365 s → Shaped (fourthYears p s)
-unfolding fourthYears
-fourth-shaped p c = leap-shaped c (fourthLeap p) (λ i. refl)
-
-pub leap-by-shaped : (ms : List ℕ) (p : ℕ) {s : ℕ} → Common 365 s → Shaped (leapByYears ms p s)
-unfolding leapByYears
-leap-by-shaped ms p c = leap-shaped c (λ i. leapBy ms (i + p)) (λ i. refl)
-
-pub islamic-shaped : {s : ℕ} → Common 354 s → Shaped (islamicYears s)
-unfolding islamicYears
-islamic-shaped c = leap-shaped c islamicLeapAt (λ i. refl)
-
-pub hebrew-shaped : Shaped hebrewYears
-hebrew-shaped =
-    record {
-      of = λ i. 15 + kindOf (leap (i + 1)) (yearDays (i + 1));
-      small = λ i. hebrew-year (i + 1) (omega arith) .kin .small;
-      is = λ i. let e : i + 1 - 1 ≡ i = omega arith in rw e at (hebrew-year (i + 1) (omega arith) .lengths);
-    }
+pub hebrew-bounded : Bounded (years hebrew)
+hebrew-bounded =
+    record { each = λ i. let k = hebrew-kind i in ap within (k .2) ∙ every-at (λ k. within (getD kinds k [])) 6 kinds-within (k .0) (k .1) }

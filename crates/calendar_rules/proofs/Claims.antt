@@ -52,7 +52,7 @@ module _ {c : ℕ} {K : Calendar} (l : Listed c K) where
 
   -- day to date is counting one by one from the listed first day: the first day is 1/1 of the first year,
   pub first-day : dateAnswer c (K .firstDay) ≡ record { number = 0; year = K .firstYear; month = 1; day = 1 }
-  first-day = date-asked (K .firstDay) ∙ C.first-day K listed-proper (B.year-opens (sound .shaped) 0) (omega (arith, sound .first-day))
+  first-day = date-asked (K .firstDay) ∙ C.first-day K listed-proper (B.year-opens (sound .bounded) 0) (omega (arith, sound .first-day))
 
   -- and each day after has the date that follows
   pub next-day : (n : ℕ) → K .firstDay ≤ n → n < lastDay → (D : Date) × (dateAnswer c n ≡ dated K D) × (dateAnswer c (suc n) ≡ dated K (next (years K) D))
@@ -65,7 +65,7 @@ module _ {c : ℕ} {K : Calendar} (l : Listed c K) where
 
   -- a year has 353 to 385 days
   pub year-days : (i : ℕ) → (353 ≤ total (years K i)) × (total (years K i) ≤ 385)
-  year-days = B.year-days (sound .shaped)
+  year-days = B.year-days (sound .bounded)
 
 -- ---- where the answer is no refusal, the number is listed
 

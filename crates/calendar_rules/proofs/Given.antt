@@ -51,7 +51,7 @@ unlisted : (c : ℕ) → calendar c ≡ Option.none → ¬ IsListed c
 unfolding some
 unlisted c e l = omega (arith, same c, ap some e, is-number c l)
 
-is-listed : {c : ℕ} {K : Calendar} → Listed c K → IsListed c
+pub is-listed : {c : ℕ} {K : Calendar} → Listed c K → IsListed c
 unfolding some number
 is-listed {c} l = go (leb 1 c) refl (leb c 15) refl (eqb c 18) refl (omega (arith, same c, ap some (l .row)))
   where

@@ -1,6 +1,3 @@
-pub mod Steps
+pub mod Arms
 pub mod Answers
-pub mod ByRow
-pub mod Dates
-pub mod Leap
 pub mod Claims

@@ -1,47 +1,46 @@
--- For code: the answers in two steps, the position of a year and then the day in it. Nobody has to believe this page. `first` is a calendar's first year, `day`
--- its first day, `L` its years from the first.
-use Prim.Native.Nat.{ℕ, _+_, _-_}
-use mathlib.Core.Bool.{cond, _||_}
-use mathlib.Core.List.{List}
+-- For code: the answers as plain numbers, and in steps: the position of a year, the day in it. Nobody has to believe this page.
+use Prim.Native.Nat.{ℕ, _+_, _-_, _*_, _^_}
+use mathlib.Core.Bool.{Bool, true, false, cond, _||_}
+use mathlib.Core.Option.{Option}
 use mathlib.Core.Path.{_≡_}
 use lib.Dec.{eqb, ltb}
 use lib.IntN.{ℤ}
-use lib.ListN.{take}
-use lib.Signed.{ltZ}
-use Rattle.counting.specs.Calendar.{total, start, len, dateAt}
-use Rattle.counting.specs.Years.{yearAt, yearsFrom}
-use Rattle.counting.specs.Answers.{years, DayAnswer, noDayAnswer, DateAnswer, noDateAnswer, lastYear, lastDay}
-use Rattle.calendar_rules.specs.Calendars.{calendar}
+use Rattle.counting.specs.Years.{yearsFrom}
+use Rattle.counting.specs.Answers.{Calendar, DayAnswer, noDayAnswer, DateAnswer, noDateAnswer, LengthAnswer, noLengthAnswer, yearOut, lastDay}
+use Rattle.calendar_rules.specs.Calendars.{calendar, Listed}
 use Rattle.calendar_rules.specs.Answers.{ofListed}
-use Rattle.refusals.specs.Number.{numberOf}
-use Rattle.calendars.specs.declared.Sought.{Sought}
-use Rattle.calendars.specs.declared.Sought.the-variants as S
 
--- a position: the day that it begins on, and its length
-pub record MonthAnswer : Type 0 where
-  pub number : ℕ
-  pub start : ℕ
-  pub days : ℕ
+unfoldable pub listed : ℕ → Bool
+listed c = ofListed (calendar c) false (λ K. true)
 
-abbrev pub noMonthAnswer : ℕ → MonthAnswer
-noMonthAnswer k = record { number = k; start = 0; days = 0 }
+-- what holds of the calendar that is listed for a number, if one is
+abbrev pub OfListed : ℕ → (Calendar → Type 0) → Type 0
+OfListed c P = (K : Calendar) → Listed c K → P K
 
-abbrev pub monthPaper : Sought → MonthAnswer
-monthPaper (S.At m) = record { number = 0; start = m .start; days = m .days }
-monthPaper (S.Refused why) = noMonthAnswer (numberOf why)
+-- what an arm of a match finds: P holds of the calendar, and x is 0 where there is none
+pub record Answered (c : ℕ) (P : Calendar → Type 0) (x : ℕ) : Type 0 where
+  pub on : OfListed c P
+  pub off : calendar c ≡ Option.none → x ≡ 0
 
--- position m of the year that is i years after the first
-abbrev pub monthIn : ℕ → (ℕ → List ℕ) → ℕ → ℕ → MonthAnswer
-monthIn day L i m =
-    cond (eqb m 0 || eqb (len (L i) m) 0) (noMonthAnswer 3)
-    (record { number = 0; start = day + start L i + total (take (m - 1) (L i)); days = len (L i) m })
+-- an answer as one number: the answer number 2^32 high
+abbrev pub packedDay : DayAnswer → ℕ
+packedDay x = x .number * 2 ^ 32 + x .day
 
--- position m of year y
-abbrev pub monthBy : ℤ → ℕ → (ℕ → List ℕ) → ℤ → ℕ → MonthAnswer
-monthBy first day L y m = cond (ltZ y first || ltZ lastYear y) (noMonthAnswer 2) (monthIn day L (yearsFrom first y) m)
+-- why there is no position of year y that was sought: 1, 2 or 3, whichever is first
+unfoldable pub noneNumber : ℕ → ℤ → ℕ
+noneNumber c y = ofListed (calendar c) 1 (λ K. cond (yearOut K y) 2 3)
 
-unfoldable pub monthAnswer : ℕ → ℤ → ℕ → MonthAnswer
-monthAnswer c y m = ofListed (calendar c) (noMonthAnswer 1) (λ K. monthBy (K .firstYear) (K .firstDay) (years K) y m)
+abbrev pub packedNone : ℕ → ℤ → ℕ
+packedNone c y = noneNumber c y * 2 ^ 32
+
+abbrev pub noneLength : ℕ → ℤ → LengthAnswer
+noneLength c y = noLengthAnswer (noneNumber c y)
+
+-- what was found of year y, where P is to hold of the calendar and the years from its first, and days are 0 where there is no such year
+pub record Sought (c : ℕ) (y : ℤ) (P : Calendar → ℕ → Type 0) (days : ℕ) : Type 0 where
+  pub off : calendar c ≡ Option.none → days ≡ 0
+  pub out : OfListed c (λ K. yearOut K y ≡ true → days ≡ 0)
+  pub there : OfListed c (λ K. yearOut K y ≡ false → P K (yearsFrom (K .firstYear) y))
 
 -- day d of a position that begins on day b and has l days
 abbrev pub dayIn : ℕ → ℕ → ℕ → DayAnswer
@@ -50,14 +49,6 @@ dayIn b l d =
     (cond (ltb lastDay (b + (d - 1))) (noDayAnswer 5)
     (record { number = 0; day = b + (d - 1) }))
 
--- the date that counting n days from the calendar's first reaches
-pub record DateIs (first : ℤ) (L : ℕ → List ℕ) (n : ℕ) (y : ℤ) (m d : ℕ) : Type 0 where
-  pub year : y ≡ yearAt first (dateAt L n .year)
-  pub month : m ≡ dateAt L n .month
-  pub day : d ≡ dateAt L n .day
-
--- the date of day n
-abbrev pub dateBy : ℤ → ℕ → (ℕ → List ℕ) → ℕ → DateAnswer
-dateBy first day L n =
-    cond (ltb lastDay n || ltb n day) (noDateAnswer 5)
-    (record { number = 0; year = yearAt first (dateAt L (n - day) .year); month = dateAt L (n - day) .month; day = dateAt L (n - day) .day })
+-- a day that has no date, since it is out of range or the calendar is not listed
+abbrev pub noDate : ℕ → DateAnswer
+noDate c = cond (listed c) (noDateAnswer 5) (noDateAnswer 1)

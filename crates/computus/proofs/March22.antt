@@ -1,23 +1,27 @@
 -- The day number of 22 March by division, in both calendars: 285 days before the next year begins, so that no leap day is counted.
-use mathlib.Core.Path.{_≡_, refl, ap}
+use mathlib.Core.Path.{_≡_, refl, ap, _∙_}
 use mathlib.Core.Bool.{Bool, true, false, cond}
 use Prim.Native.Nat.{ℕ, suc, _+_, _-_, _*_, _/_, _≤_}
 use native.Mathlib.Omega.{arith}
 use lib.IntN.{ℤ, pos}
 use Rattle.counting.specs.Calendar.{total, start}
 use Rattle.counting.specs.Answers.{years}
-use Rattle.counting.proofs.Starts.{start-same}
-use Rattle.calendar_rules.specs.Shapes.{Common}
-use Rattle.calendar_rules.specs.Calendars.{fromJanuary, remainder, gregorianLeap}
-use Rattle.calendar_rules.proofs.Rows.{julian-row, gregorian-row}
-use Rattle.calendar_rules.proofs.Tables.{pairTest, pair}
-use Rattle.calendar_rules.proofs.Years.{fourth-year}
-use Rattle.calendar_rules.proofs.Gregorian.{centuryDays, century-room, starts}
+use Rattle.calendar_rules.specs.Calendars.{fromJanuary, remainder, gregorianLeap, julian, gregorian}
+use Rattle.months.specs.Leap.{Common, fourthLeap, leapBy, centuries}
+use Rattle.months.proofs.Rows.{julian-row, gregorian-row}
+use Rattle.months.proofs.Years.{days-by, fourth-start}
+use Rattle.months.proofs.Gregorian.{centuryDays, century-room, starts}
 use Rattle.computus.proofs.GoodDates.{januaries, day22March, lengths}
 
-january : Common 365 6
-unfolding pairTest total
-january = pair 365 6 refl
+january : Common 365 fromJanuary
+unfolding total
+january = record { common = refl; leap = refl }
+
+julian-days : (i : ℕ) → total (years julian i) ≡ 365 + cond (fourthLeap 3 i) 1 0
+julian-days i = ap total (julian-row i) ∙ days-by january (fourthLeap 3 i)
+
+gregorian-days : (i : ℕ) → total (years gregorian i) ≡ 365 + cond (leapBy centuries (i + 88)) 1 0
+gregorian-days i = ap total (gregorian-row i) ∙ days-by january (leapBy centuries (i + 88))
 
 -- the days of a year are those of February and 337 more
 year-days : (t : Bool) → total (fromJanuary t) ≡ cond t 29 28 + 337
@@ -33,12 +37,12 @@ pub julian-22 : (A : ℕ) → day22March 0 (remainder 0 4) A ≡ 365 * A + A / 4
 julian-22 A =
     let i = suc (A + 4712) in
     let q : (i + 3) / 4 ≡ A / 4 + 1179 = omega arith in
-    omega (arith, before-next-year 0 (remainder 0 4) A, start-same _ _ julian-row i, fourth-year 3 6 (omega arith) january i .begins)
+    omega (arith, before-next-year 0 (remainder 0 4) A, fourth-start (years julian) 3 (omega arith) julian-days i)
 
 pub gregorian-22 : (A : ℕ) → day22March 38 gregorianLeap A + A / 100 ≡ 365 * A + A / 4 + A / 100 / 4 + 1721141
 unfolding centuryDays
 gregorian-22 A =
-    sums _ _ _ _ _ _ _ _ _ (before-next-year 38 gregorianLeap A) (rw (start-same _ _ gregorian-row i) (starts 88 6 january i))
+    sums _ _ _ _ _ _ _ _ _ (before-next-year 38 gregorianLeap A) (starts 88 (years gregorian) gregorian-days i)
     (century-room z) (omega arith) (omega arith) (omega arith) (omega arith)
   where
     i : ℕ

@@ -16,7 +16,7 @@ use Rattle.counting.proofs.Starts.{start-same}
 use Rattle.hebrew.proofs.Calendar.{start-is}
 use Rattle.calendar_rules.specs.Calendars.{hebrew, lookup, calendar}
 use Rattle.calendar_rules.specs.Answers.{dayAnswer}
-use Rattle.calendar_rules.proofs.Rows.{hebrew-row}
+use Rattle.calendar_rules.proofs.HebrewYears.{hebrew-row}
 use Rattle.examples.specs.Starred.{starred, Answered}
 
 -- the days before a Hebrew year, from its first day by the rules

@@ -1,8 +1,6 @@
 // The proved functions for C, C++ and Rust (`include/ijok.h`). An answer is returned as a struct by value, its number first, so that no result buffer can be
 // too short. A slice passes as a pointer and then a length.
-use calendars::Date;
 use calendars::Dated;
-use calendars::Day;
 use calendars::Length;
 use easter::EasterDate;
 use fitting::Fitted;
@@ -11,7 +9,8 @@ use refusals::Refusal;
 use unfolding::Unfolded;
 ghost use mathlib.Core.Path.{_≡_};
 ghost use Rattle.calendar_rules.specs.Answers.{dayAnswer, dateAnswer, lengthAnswer};
-ghost use Rattle.calendars.specs.Paper.{dayPaper, datePaper, lengthPaper};
+ghost use Rattle.calendars.specs.Paper.{datePaper, lengthPaper};
+ghost use Rattle.calendars.specs.Parts.{packedDay};
 ghost use Rattle.refusals.specs.Number.{numberOf};
 ghost use Rattle.lines.specs.Fit.{fitOf};
 ghost use Rattle.lines.specs.Unfold.{unfoldNumber, unfoldBuffer};
@@ -69,23 +68,29 @@ fn number_of(why: Refusal) -> u64
     refusals::number(why) as u64
 }
 
+// The day of a date as one number: as an enum it would be handed over through memory. The two calendars that have functions of their own are asked directly, so
+// that these are called, by the shortest way, and not part of the function for all.
+fn packed_day(calendar: u64, year: i64, month: u64, day: u64) -> u64
+    ensures { λ r. ⌜ r ≡ packedDay (dayAnswer calendar year month day) ⌝ }
+{
+    if calendar == 11 {
+        return calendars::gregorian_day(year, month, day);
+    }
+    if calendar == 18 {
+        return calendars::hebrew_day(year, month, day);
+    }
+    calendars::other_day(calendar, year, month, day)
+}
+
 // The day of a date.
 #[no_mangle]
 pub extern "C" fn ijok_date_to_day(calendar: u64, year: i64, month: u64, day: u64) -> DayFields
     ensures { λ r. ⌜ dayFields r ≡ dayAnswer calendar year month day ⌝ }
 {
-    day_fields(calendars::date_to_day(calendar, Date { year, month, day }))
-}
-
-fn day_fields(answer: Day) -> DayFields
-    ensures { λ r. ⌜ dayFields r ≡ dayPaper answer ⌝ }
-{
-    match answer {
-        Day::Number(day) => DayFields { number: 0, day },
-        Day::Refused(why) => DayFields {
-            number: number_of(why),
-            day: 0,
-        },
+    let r = packed_day(calendar, year, month, day);
+    DayFields {
+        number: r / 0x1_0000_0000,
+        day: r % 0x1_0000_0000,
     }
 }
 

@@ -6,15 +6,12 @@ use native.Mathlib.Decide.{decLt}
 use Rattle.hebrew.specs.Hebrew.{moon, newYear}
 use Rattle.hebrew.proofs.Calendar.{YearOf}
 use Rattle.hebrew.proofs.Months.{months-closed}
-use Rattle.hebrew.proofs.Calendar.{start-is, year-unique}
+use Rattle.hebrew.proofs.Calendar.{year-unique}
 use Rattle.hebrew.proofs.Estimate.{estimate, estimate-right, estimate-high}
 
 pub moon-closed : (y : ℕ) → 1 ≤ y → moon y ≡ 5604 + (235 * y - 234) / 19 * 765433
 unfolding moon
 moon-closed y h = ap (λ (m : ℕ). 5604 + m * 765433) (months-closed y h)
-
-pub new-year-from : (y : ℕ) → 1 ≤ y → 347998 ≤ newYear y
-new-year-from y h = let e : y - 1 + 1 ≡ y = omega arith in omega (arith, start-is (y - 1), ap newYear e)
 
 -- the year of the last day, and the estimate there, are 13,760
 estimate-le : (day : ℕ) → day ≤ 5373484 → estimate day ≤ 13760

@@ -1,12 +1,10 @@
 -- The length of a year, in general: from its first day to the next year's are 353, 354 or 355 days where it is common, 383, 384 or 385 where it is leap.
 use Prim.Native.Nat.{ℕ, zero, suc, _+_, _*_, _-_, _≤_}
-use mathlib.Core.Path.{_≡_, refl, sym, _∙_, ap}
+use mathlib.Core.Path.{_≡_, refl, _∙_, ap}
 use mathlib.Core.Bool.{Bool, true, false, cond}
 use native.Mathlib.Omega.{arith}
 use native.Mathlib.Numerals.{add-one}
-use lib.Dec.{ltb}
-use borrow.Author.Tests.{lt-ltb, le-ltb}
-use Rattle.hebrew.specs.Hebrew.{leap, monthsIn, monthsBefore, moon, moonDay, moonHour, newYear, yearDays}
+use Rattle.hebrew.specs.Hebrew.{leap, monthsIn, monthsBefore, moon, moonDay, moonHour, newYear}
 use Rattle.hebrew.proofs.Months.{not-twice}
 use Rattle.hebrew.proofs.Gates.{hand, Begins, widen, Apart, after-common, after-leap}
 use Rattle.hebrew.proofs.Rules.{handed, monday-le, tuesday-le, monday-none, rules}
@@ -67,11 +65,3 @@ grows y h = go (leap y) (year-length y h)
     go : (c : Bool) → Apart (cond c 383 353) (newYear y) (newYear (y + 1)) → (newYear y + 353 ≤ newYear (y + 1)) × (newYear (y + 1) ≤ newYear y + 385)
     go true a = omega arith
     go false a = omega arith
-
--- so the days tell whether a year is leap
-pub leap-days : (y : ℕ) → 1 ≤ y → leap y ≡ ltb 360 (yearDays y)
-leap-days y h = go (leap y) (year-length y h)
-  where
-    go : (c : Bool) → Apart (cond c 383 353) (newYear y) (newYear (y + 1)) → c ≡ ltb 360 (yearDays y)
-    go true a = sym (lt-ltb 360 (yearDays y) (omega arith))
-    go false a = sym (le-ltb 360 (yearDays y) (omega arith))

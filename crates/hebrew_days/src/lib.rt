@@ -1,15 +1,19 @@
-// The Hebrew year: its first day by the four rules, its kind by the days to the next year's first day, and the year of a day by one division and one
-// correction.
-use parts::Found;
-use parts::Year;
+// The Hebrew calendar, 18: a year's first day and kind by the four gates, that is by where in the week its new moon falls, 6 hours on; a position of a
+// year, and the date of a day. Positions are counted from 0.
+use parts::Month;
+use parts::Place;
+ghost use mathlib.Core.Bool.{cond};
 ghost use mathlib.Core.List.{[]};
 ghost use mathlib.Core.Path.{_≡_};
-ghost use Prim.Native.Nat.{_+_, _-_, _%_, _≤_, _<_};
+ghost use Prim.Native.Nat.{_+_, _-_, _*_, _≤_, _<_};
+ghost use lib.IntN.{pos};
 ghost use lib.ListN.{getD};
-ghost use Rattle.hebrew.specs.Hebrew.{secondApplies, thirdApplies, moved, fourth, newYear, kinds};
-ghost use Rattle.hebrew.specs.Years.{years};
-ghost use Rattle.calendar_rules.specs.Shapes.{YearIs};
-ghost use Rattle.parts.specs.Years.{FoundIs};
+ghost use Rattle.counting.specs.Answers.{years, lastDay};
+ghost use Rattle.hebrew.specs.Hebrew.{leap, kinds};
+ghost use Rattle.hebrew.proofs.Calendar.{YearOf};
+ghost use Rattle.calendar_rules.specs.Calendars.{hebrew};
+ghost use Rattle.months.specs.Parts.{lengthAt, MonthOf, DateIs, PlaceOf};
+ghost use Rattle.months.specs.Hebrew.{HebrewYear, short, monthBefore, monthOf, monthsTo, gateDays, nextDays};
 
 // The lengths of the positions: common deficient, regular, abundant, then leap deficient, regular, abundant.
 const KINDS: [[u8; 13]; 6] = [
@@ -21,131 +25,191 @@ const KINDS: [[u8; 13]; 6] = [
     [30, 30, 30, 29, 30, 30, 29, 30, 29, 30, 29, 30, 29],
 ];
 
-// The length of a position, counted from 0, in a year of a kind; 0 past the last of either.
-pub fn month_days(kind: u64, position: u64) -> u64
-    ensures { λ r. ⌜ r ≡ getD (getD kinds kind []) position 0 ⌝ }
-{
-    if 5 < kind {
-        return 0;
-    }
-    if 12 < position {
-        return 0;
-    }
-    let k = kind as usize;
-    let p = position as usize;
-    wide(KINDS[k][p])
-}
-
 fn wide(x: u8) -> u64
     ensures { λ r. ⌜ r ≡ x ⌝ }
 {
     x as u64
 }
 
-// A common year, Tuesday at or after 9 hours 204 parts.
-fn second_applies(this: bool, w: u64, hour: u64) -> bool
-    ensures { λ r. ⌜ r ≡ secondApplies this w hour ⌝ }
+// The length of a position in a year of a kind.
+fn month_days(kind: u64, position: u64) -> u64
+    requires { ⌜ (kind < 6) × (position < 13) ⌝ }
+    ensures { λ r. ⌜ r ≡ getD (getD kinds kind []) position 0 ⌝ }
 {
-    !this & (w == 1) & (hour >= 9924)
+    let k = kind as usize;
+    let p = position as usize;
+    wide(KINDS[k][p])
 }
 
-// A common year after a leap year, Monday at or after 15 hours 589 parts.
-fn third_applies(this: bool, last: bool, w: u64, hour: u64) -> bool
-    ensures { λ r. ⌜ r ≡ thirdApplies this last w hour ⌝ }
+// By how much the days before a month are less than 30 each, four bits a month. All remainders by 8 are named, so that the compiler makes a table of them
+// that needs no test.
+fn shortfall(kind: u64) -> u64
+    requires { ⌜ kind < 6 ⌝ }
+    ensures { λ r. ⌜ r ≡ short kind ⌝ }
 {
-    !this & last & (w == 0) & (hour >= 16789)
-}
-
-// The days by which the first of three rules that applies moves the new moon's day, whose weekday is w.
-fn moved_by(this: bool, last: bool, day: u64, w: u64, hour: u64) -> u64
-    requires { ⌜ w ≡ day % 7 ⌝ }
-    ensures { λ r. ⌜ (day + r ≡ moved this last day hour) × (r ≤ 2) ⌝ }
-{
-    let second = second_applies(this, w, hour);
-    let third = third_applies(this, last, w, hour);
-    if hour >= 19440 {
-        1
-    } else if second {
-        2
-    } else if third {
-        1
-    } else {
-        0
+    match kind % 8 {
+        0 => 0x7665544332100,
+        1 => 0x6554433221100,
+        2 => 0x5443322110000,
+        3 => 0x76655443332100,
+        4 => 0x65544332221100,
+        5 => 0x54433221110000,
+        6 => 0,
+        7 => 0,
+        _ => 1,
     }
 }
 
-// The fourth rule: no year begins on Sunday, Wednesday or Friday. The weekday is the day's, or 7 more.
-fn fourth_day(day: u64, w: u64) -> u64
-    requires { ⌜ (day ≤ 2000000000000) × (w < 9) × (w % 7 ≡ day % 7) ⌝ }
-    ensures { λ r. ⌜ r ≡ fourth day ⌝ }
+// The days before month q of a year of a kind, whose word is looked up once: two matches on one number would become a jump.
+fn month_before(kind: u64, word: u64, q: u64) -> u64
+    requires { ⌜ (kind < 6) × (word ≡ short kind) × (q < 14) ⌝ }
+    ensures { λ r. ⌜ r ≡ monthBefore kind q ⌝ }
 {
-    if (w == 6) | (w == 2) | (w == 4) {
-        day + 1
-    } else {
-        day
-    }
+    30 * q - (word >> (4 * q)) % 16
 }
 
-// The first day of year y. What the count of months leaves by 19 tells whether the year and the year before are leap.
-fn new_year(y: u64) -> u64
-    requires { ⌜ (1 ≤ y) × (y ≤ 4294967298) ⌝ }
-    ensures { λ r. ⌜ r ≡ newYear y ⌝ }
-{
-    let t = 235 * y - 234;
-    let left = t % 19;
-    let moon = 5604 + t / 19 * 765433;
-    let day = 347998 + moon / 25920;
-    let w = day % 7;
-    let by = moved_by(12 <= left, left < 7, day, w, moon % 25920);
-    fourth_day(day + by, w + by)
+// ---- the year
+
+// A year: its first day, 1 where it is leap, and its kind.
+struct Year {
+    start: u64,
+    leap: u64,
+    kind: u64,
 }
 
-// The year y, given its first day and the next year's.
-fn between(y: u64, this: u64, next: u64) -> Year
-    requires { ⌜ (1 ≤ y) × (this ≡ newYear y) × (next ≡ newYear (y + 1)) ⌝ }
-    ensures { λ r. ⌜ YearIs years 15 (y - 1) (r .start) (r .shape) ⌝ }
+// 13 more than the months before year y.
+fn months_to(y: u64) -> u64
+    requires { ⌜ y ≤ 65539 ⌝ }
+    ensures { λ r. ⌜ r ≡ monthsTo y ⌝ }
 {
-    let days = next - this;
-    let start = this - 347998;
-    if 360 < days {
-        return Year {
-            start,
-            shape: days - 365,
-        };
-    }
+    (12969230 * y + 738000) >> 20
+}
+
+// 1 where year y is leap.
+fn leap_of(y: u64) -> u64
+    requires { ⌜ y ≤ 65538 ⌝ }
+    ensures { λ r. ⌜ (r ≡ cond (leap y) 1 0) × (r ≤ 1) ⌝ }
+{
+    months_to(y + 1) - months_to(y) - 12
+}
+
+// The days from Monday to the year's first day.
+fn gate_days(rest: u64, a: u64, b: u64) -> u64
+    ensures { λ r. ⌜ (r ≡ gateDays rest a b) × (r ≤ 7) ⌝ }
+{
+    parts::pick(a <= rest, 1, 0)
+        + 2
+            * (parts::pick(b <= rest, 1, 0)
+                + parts::pick(103680 <= rest, 1, 0)
+                + parts::pick(155520 <= rest, 1, 0))
+}
+
+// The days from Saturday to the next year's first day.
+fn next_days(far: u64, a: u64, b: u64) -> u64
+    ensures { λ r. ⌜ (r ≡ nextDays far a b) × (r ≤ 7) ⌝ }
+{
+    parts::pick(a <= far, 1, 0)
+        + 2
+            * (parts::pick(155520 <= far, 1, 0)
+                + parts::pick(b <= far, 1, 0)
+                + parts::pick(285120 <= far, 1, 0))
+}
+
+// Both first days from one new moon. The next is 4 or 5 days and some hours further in the week, past Thursday.
+fn year_at(y: u64) -> Year
+    requires { ⌜ (1 ≤ y) × (y ≤ 65537) ⌝ }
+    ensures { λ r. ⌜ HebrewYear y (r .start) (r .leap) (r .kind) × (r .leap ≤ 1) × (r .start ≤ 8589934592) ⌝ }
+{
+    let before = leap_of(y - 1);
+    let now = leap_of(y);
+    let after = leap_of(y + 1);
+    let m = months_to(y) * 765433 - 9938545;
+    let rest = m % 181440;
+    let here = gate_days(rest, 25920 - 2651 * before, 42324 + 9516 * now);
+    let there = next_days(
+        rest + 113196 + 39673 * now,
+        207360 - 2651 * now,
+        223764 + 9516 * after,
+    );
     Year {
-        start,
-        shape: days - 338,
+        start: 347998 + 7 * (m / 181440) + here,
+        leap: now,
+        kind: there + now + 2 - here,
     }
 }
 
-// The year that is i years after year 1.
-pub fn year_at(i: u32) -> Year
-    ensures { λ r. ⌜ YearIs years 15 i (r .start) (r .shape) ⌝ }
+// ---- a position of the year that is i years after the first
+
+// The month of a position: the place that is no month in a common year is not counted.
+fn month_of(l: u64, p: u64) -> u64
+    requires { ⌜ (l ≤ 1) × (p ≤ 12) ⌝ }
+    ensures { λ r. ⌜ (r ≡ monthOf l p) × (r < 13) ⌝ }
 {
-    let y = (i as u64) + 1;
-    between(y, new_year(y), new_year(y + 1))
+    parts::pick(6 < p, p + l, p + 1) - 1
 }
 
-// The year of the day that is n days after the first.
-pub fn year_of(n: u32) -> Found
-    ensures { λ r. ⌜ FoundIs years 15 n (r .place) (r .start) (r .shape) ⌝ }
+pub fn length_at(i: u16, p: u64) -> u64
+    ensures { λ r. ⌜ r ≡ lengthAt hebrew i p ⌝ }
 {
-    let after = n as u64;
-    let y = (after + 28) * 98496 / 35975351 + 1;
-    let this = new_year(y);
-    if after + 347998 < this {
-        let r = between(y - 1, new_year(y - 1), this);
-        return Found {
-            place: y - 2,
-            start: r.start,
-            shape: r.shape,
-        };
+    if 12 < p {
+        return 0;
     }
-    let r = between(y, this, new_year(y + 1));
-    Found {
-        place: y - 1,
-        start: r.start,
-        shape: r.shape,
+    let y = year_at((i as u64) + 1);
+    month_days(y.kind, p)
+}
+
+// The seventh position of a common year is none. The length is what the days before the next month are more.
+pub fn month_at(i: u16, p: u64) -> Month
+    ensures { λ r. ⌜ MonthOf hebrew i p (r .start) (r .days) ⌝ }
+{
+    if 12 < p {
+        return Month { start: 0, days: 0 };
     }
+    let y = year_at((i as u64) + 1);
+    if p + 8 * y.leap == 6 {
+        return Month { start: 0, days: 0 };
+    }
+    let q = month_of(y.leap, p);
+    let word = shortfall(y.kind);
+    let here = month_before(y.kind, word, q);
+    let next = month_before(y.kind, word, q + 1);
+    Month {
+        start: y.start + here,
+        days: next - here,
+    }
+}
+
+// ---- the date of a day
+
+// A day of year y.
+fn date_in(y: u64, year: Year, day: u64) -> Place
+    requires { ⌜ YearOf day y × HebrewYear y (year .start) (year .leap) (year .kind) × (year .leap ≤ 1) × (y ≤ 65537) ⌝ }
+    ensures { λ r. ⌜ DateIs (years hebrew) (pos 1) (day - 347998) (r .year) (r .month) (r .day) ⌝ }
+{
+    let rest = day - year.start;
+    let q = rest / 32;
+    let word = shortfall(year.kind);
+    let here = month_before(year.kind, word, q);
+    let there = month_before(year.kind, word, q + 1);
+    let p = parts::pick(there <= rest, q + 1, q);
+    let start = parts::pick(there <= rest, there, here);
+    let late = parts::pick(6 + 13 * year.leap <= p, 1, 0);
+    parts::place_in(0, y as u32, p + late + 1, rest - start + 1)
+}
+
+// By one division, and the year before where that is one too high.
+pub fn date_on(day: u32) -> Place
+    requires { ⌜ day ≤ lastDay ⌝ }
+    ensures { λ r. ⌜ PlaceOf hebrew day (r .year) (r .month) (r .day) ⌝ }
+{
+    if day < 347998 {
+        return parts::nowhere();
+    }
+    let n = day as u64;
+    let y = (n - 347970) * 98496 / 35975351 + 1;
+    let year = year_at(y);
+    if n < year.start {
+        return date_in(y - 1, year_at(y - 1), n);
+    }
+    date_in(y, year, n)
 }

@@ -49,7 +49,7 @@ unfoldable pub lastAt : ℕ → ℕ → ℕ → ℕ → ℕ
 lastAt a b r n = (b * n + (b - 1 - r)) / a
 
 -- the mark at k is at most n exactly for the k up to lastAt n
-mark-le : (a b r n k : ℕ) → 0 < a → r < b → (markAt a b r k ≤ n) ↔ (k ≤ lastAt a b r n)
+pub mark-le : (a b r n k : ℕ) → 0 < a → r < b → (markAt a b r k ≤ n) ↔ (k ≤ lastAt a b r n)
 unfolding markAt lastAt
 mark-le a b r n k ha hr =
     let e = suc-mul n b in

@@ -1,53 +1,50 @@
 -- `calendars::date_to_day` meets its contract.
-use mathlib.Core.Path.{_≡_, sym, ap, _∙_}
+use mathlib.Core.Path.{_≡_}
+use Prim.Native.Nat.{ℕ, suc, _/_, _≤_}
+use native.Mathlib.Omega.{arith}
 use mir.Syntax.{w64}
 use mir.ValLaws.{toZ-ofZ}
-use Rattle.calendars.specs.Parts.{MonthAnswer, monthAnswer, monthPaper}
-use Rattle.calendars.proofs.Answers.{day-there, there-small, day-refused}
+use Rattle.counting.specs.Answers.{DayAnswer, noDayAnswer}
+use Rattle.calendar_rules.specs.Answers.{dayAnswer}
+use Rattle.calendars.proofs.Answers.{unpacks}
 use borrow.Author.Needs.{needs}
 use Rattle.calendars.proofs.date_to_day.Statement.{statement}
 use Rattle.calendars.proofs.date_to_day.Tie as tie
 
-answered : (a : tie.After-month-of) → let s = a .before .before in
-    monthPaper (a .month-of .result) ≡ monthAnswer (s .args .calendar) (s .args .date .year) (s .args .date .month)
-answered a = rw (toZ-ofZ w64 (a .before .before .args .date .year) (record { sfits = a .before .struct-told .given .0 .1 })) at (a .month-of .ensures)
+-- what the number that was given says of the answer
+read : (a : tie.After-packed-day)
+    → let s = a .before .before in
+    let r = a .packed-day .result in
+    let x = dayAnswer (s .args .calendar) (s .args .date .year) (s .args .date .month) (s .args .date .day) in
+    (r / 4294967296 ≤ 5) × (r / 4294967296 ≡ 0 → _≡_ {A = DayAnswer} (record { number = 0; day = r }) x)
+    × ((k : ℕ) → r / 4294967296 ≡ suc k → noDayAnswer (suc k) ≡ x)
+read a =
+    let s = a .before .before in
+    unpacks (s .args .calendar) (s .args .date .year) (s .args .date .month) (s .args .date .day) (a .packed-day .result)
+    (rw (toZ-ofZ w64 (s .args .date .year) (record { sfits = a .before .struct-told .given .0 .1 })) at (a .packed-day .ensures))
 
-there : (k : tie.After-known-told) → let s = k .before .before .before .before .before in
-    _≡_ {A = MonthAnswer} (record { number = 0; start = k .before .sought .given .0 .0 .start; days = k .before .sought .given .0 .0 .days })
-    (monthAnswer (s .args .calendar) (s .args .date .year) (s .args .date .month))
-there k = ap monthPaper (sym (k .before .sought .given .1)) ∙ answered (k .before .before .before)
-
-month-of-requires : tie.Need-month-of-requires
-month-of-requires c κs = search needs
-
-enum-known-sought : tie.Need-enum-known-sought
-enum-known-sought c = search needs
-
-day-in-requires : tie.Need-day-in-requires
-day-in-requires c κs =
-    let s = c .before .before .before .before .before in there-small (s .args .calendar) (s .args .date .year) (s .args .date .month) _ _ (there c)
-
-enum-known-sought-2 : tie.Need-enum-known-sought-2
-enum-known-sought-2 c = search needs
+packed-day-requires : tie.Need-packed-day-requires
+packed-day-requires c κs = search needs
 
 returns : tie.Need-returns
-returns c =
-    let s = c .before .before .before .before .before .before in
-    c .day-in .ensures ∙ day-there (s .args .calendar) (s .args .date .year) (s .args .date .month) _ _ (there (c .before)) (s .args .date .day)
+returns c = read (c .before) .1 (c .match .keys1)
 
 returns-2 : tie.Need-returns-2
-returns-2 c =
-    let s = c .before .before .before .before .before in
-    day-refused (s .args .calendar) (s .args .date .year) (s .args .date .month) (c .before .sought2 .given .0 .0)
-    (ap monthPaper (sym (c .before .sought2 .given .1)) ∙ answered (c .before .before .before)) (s .args .date .day)
+returns-2 c = read (c .before) .2 0 (c .match .keys2)
+
+returns-3 : tie.Need-returns-3
+returns-3 c = read (c .before) .2 1 (c .match .keys3)
+
+returns-4 : tie.Need-returns-4
+returns-4 c = read (c .before) .2 2 (c .match .keys4)
+
+returns-5 : tie.Need-returns-5
+returns-5 c = read (c .before) .2 3 (c .match .keys5)
+
+returns-6 : tie.Need-returns-6
+returns-6 c = let u = read (c .before) in u .2 4 (omega (arith, u .0, c .match .rest))
 
 pub date-to-day-spec : {M : Type 1} → statement M
 date-to-day-spec =
     tie.close
-    (tie.spec
-    month-of-requires
-    enum-known-sought
-    day-in-requires
-    enum-known-sought-2
-    returns
-    returns-2)
+    (tie.spec packed-day-requires returns returns-2 returns-3 returns-4 returns-5 returns-6)

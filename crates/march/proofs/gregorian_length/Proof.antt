@@ -1,0 +1,66 @@
+-- `march::gregorian_length` meets its contract.
+use Prim.Native.Nat.{_+_, _-_, _*_, _<_}
+use native.Mathlib.Omega.{arith}
+use Rattle.counting.specs.Answers.{years}
+use Rattle.calendar_rules.specs.Calendars.{gregorian}
+use Rattle.months.proofs.Dates.{no-length}
+use Rattle.months.proofs.MarchDates.{gregorian-positions, gregorian-month, february-most}
+use borrow.Author.Needs.{needs}
+use Rattle.march.proofs.gregorian_length.Statement.{statement}
+use Rattle.march.proofs.gregorian_length.Tie as tie
+
+returns : tie.Need-returns
+returns c = let s = c .before in no-length (years gregorian) (s .args .i) (s .args .p) (omega (arith, gregorian-positions (s .args .i)))
+
+wraps-requires : tie.Need-wraps-requires
+wraps-requires c κs = search needs
+
+add-z : tie.Need-add-z
+add-z c = search needs
+
+add-z-2 : tie.Need-add-z-2
+add-z-2 c = search needs
+
+long-february-requires : tie.Need-long-february-requires
+long-february-requires c κs = search needs
+
+pick-requires : tie.Need-pick-requires
+pick-requires c κs = search needs
+
+add-month-length : tie.Need-add-month-length
+add-month-length c = search needs
+
+mul-month-length : tie.Need-mul-month-length
+mul-month-length c = search needs
+
+sub-month-length : tie.Need-sub-month-length
+sub-month-length c = search needs
+
+month-length-requires : tie.Need-month-length-requires
+month-length-requires c κs =
+    let w = c .before .before in
+    let q : w .before .before .args .p + 10 - 12 * w .wraps .result < 12 = omega (arith, w .wraps .ensures) in
+    (rw (c .pick .ensures .0) (february-most (c .before .long-february .result)), q)
+
+returns-2 : tie.Need-returns-2
+returns-2 c =
+    let w = c .before .before .before in
+    let s = w .before .before in
+    rw (c .month-length .ensures, c .before .pick .ensures .0, c .before .before .long-february .ensures, w .wraps .ensures .0)
+    (gregorian-month (s .args .i) (s .args .p) (omega arith) .length-is)
+
+pub gregorian-length-spec : {M : Type 1} → statement M
+gregorian-length-spec =
+    tie.close
+    (tie.spec
+    returns
+    wraps-requires
+    add-z
+    add-z-2
+    long-february-requires
+    pick-requires
+    add-month-length
+    mul-month-length
+    sub-month-length
+    month-length-requires
+    returns-2)

@@ -1,0 +1,16 @@
+pub mod Years
+pub mod LeapBy
+pub mod Gregorian
+pub mod Rows
+pub mod ByLine
+pub mod Lines
+pub mod Dates
+pub mod Turned
+pub mod Thirties
+pub mod Islamic
+pub mod Tested
+pub mod March
+pub mod MarchDates
+pub mod HebrewGates
+pub mod Hebrew
+pub mod Claims
