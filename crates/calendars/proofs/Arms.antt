@@ -37,7 +37,8 @@ past zero c n h = h
 past (suc k) c n h = omega (arith, past k c (n .0) h, n .1)
 
 -- and none of the other numbers that are listed
-pub none-left : {c : ℕ} → NoneTo 9 c → (c ≡ 10 → ⊥) → (c ≡ 11 → ⊥) → (c ≡ 12 → ⊥) → (c ≡ 13 → ⊥) → (c ≡ 14 → ⊥) → (c ≡ 15 → ⊥) → (c ≡ 18 → ⊥)
+pub none-left : {c : ℕ} → NoneTo 9 c → (c ≡ 10 → ⊥) → (c ≡ 11 → ⊥) → (c ≡ 12 → ⊥) → (c ≡ 13 → ⊥)
+    → (c ≡ 14 → ⊥) → (c ≡ 15 → ⊥) → (c ≡ 18 → ⊥)
     → ¬ IsListed c
 none-left {c} n a b d e f g h (inl x) = not-both (three (three (past 9 c n (x .0)) a b d) e f g) (x .1)
   where

@@ -314,7 +314,7 @@ pub fn hebrew_day(year: i64, month: u64, day: u64) -> u64
 }
 
 // All others.
-pub fn other_day(calendar: u64, year: i64, month: u64, day: u64) -> u64
+fn other_day(calendar: u64, year: i64, month: u64, day: u64) -> u64
     requires { ⌜ (calendar ≡ 11 → ⊥) × (calendar ≡ 18 → ⊥) ⌝ }
     ensures { λ r. ⌜ r ≡ packedDay (dayAnswer calendar year month day) ⌝ }
 {

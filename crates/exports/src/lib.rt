@@ -79,7 +79,7 @@ fn packed_day(calendar: u64, year: i64, month: u64, day: u64) -> u64
     if calendar == 18 {
         return calendars::hebrew_day(year, month, day);
     }
-    calendars::other_day(calendar, year, month, day)
+    calendars::packed_day(calendar, year, month, day)
 }
 
 // The day of a date.

@@ -12,7 +12,7 @@ ghost use Rattle.counting.specs.Answers.{years, lastDay};
 ghost use Rattle.hebrew.specs.Hebrew.{leap, kinds};
 ghost use Rattle.hebrew.proofs.Calendar.{YearOf};
 ghost use Rattle.calendar_rules.specs.Calendars.{hebrew};
-ghost use Rattle.months.specs.Parts.{lengthAt, MonthOf, DateIs, PlaceOf};
+ghost use Rattle.months.specs.Parts.{lengthAt, MonthOf, DateIs, PlaceTo};
 ghost use Rattle.months.specs.Hebrew.{HebrewYear, short, monthBefore, monthOf, monthsTo, gateDays, nextDays};
 
 // The lengths of the positions: common deficient, regular, abundant, then leap deficient, regular, abundant.
@@ -197,11 +197,13 @@ fn date_in(y: u64, year: Year, day: u64) -> Place
     parts::place_in(0, y as u32, p + late + 1, rest - start + 1)
 }
 
-// By one division, and the year before where that is one too high.
+// By one division, and the year before where that is one too high; for the days up to the last, whose years the products are right for.
 pub fn date_on(day: u32) -> Place
-    requires { ⌜ day ≤ lastDay ⌝ }
-    ensures { λ r. ⌜ PlaceOf hebrew day (r .year) (r .month) (r .day) ⌝ }
+    ensures { λ r. ⌜ PlaceTo hebrew lastDay day (r .year) (r .month) (r .day) ⌝ }
 {
+    if 5373484 < day {
+        return parts::nowhere();
+    }
     if day < 347998 {
         return parts::nowhere();
     }

@@ -48,6 +48,11 @@ pub record PlaceIs (L : ℕ → List ℕ) (firstYear : ℤ) (first n : ℕ) (y :
 abbrev pub PlaceOf : Calendar → ℕ → ℤ → ℕ → ℕ → Type 0
 PlaceOf K n y m d = PlaceIs (years K) (K .firstYear) (K .firstDay) n y m d
 
+-- the same up to a last day; month 0 after it too
+pub record PlaceTo (K : Calendar) (last n : ℕ) (y : ℤ) (m d : ℕ) : Type 0 where
+  pub late : last < n → m ≡ 0
+  pub in-time : n ≤ last → PlaceOf K n y m d
+
 -- day d of a position that begins on day b and has l days, as one number: 4 and 5, which are tried, 2^32 high
 abbrev pub packedIn : ℕ → ℕ → ℕ → ℕ
 packedIn b l d = cond (eqb d 0 || ltb l d) 17179869184 (cond (ltb lastDay (b + (d - 1))) 21474836480 (b + (d - 1)))

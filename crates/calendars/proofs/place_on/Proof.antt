@@ -121,7 +121,7 @@ returns-15 c = let s = c .before .before in on-arm 15 (λ K. PlaceOf K (s .args 
 
 returns-16 : tie.Need-returns-16
 unfolding calendar lookup
-returns-16 c = let s = c .before .before in on-arm 18 (λ K. PlaceOf K (s .args .day) _ _ _) (c .before .match .keys16) refl (c .date-on5 .ensures)
+returns-16 c = let s = c .before .before in on-arm 18 (λ K. PlaceOf K (s .args .day) _ _ _) (c .before .match .keys16) refl (c .date-on5 .ensures .in-time (s .pre))
 
 returns-17 : tie.Need-returns-17
 returns-17 c =

@@ -17,11 +17,11 @@ hebrew-day-requires c κs = search needs
 returns-2 : tie.Need-returns-2
 returns-2 c = let s = c .before .before .before in rw (c .before .if2 .taken) (rw (toZ-ofZ w64 (s .args .year) (s .fits .year)) at (c .hebrew-day .ensures))
 
-other-day-requires : tie.Need-other-day-requires
-other-day-requires c κs = (c .before .if1 .left, c .if2 .left)
+packed-day-requires : tie.Need-packed-day-requires
+packed-day-requires c κs = search needs
 
 returns-3 : tie.Need-returns-3
-returns-3 c = let s = c .before .before .before in rw (toZ-ofZ w64 (s .args .year) (s .fits .year)) at (c .other-day .ensures)
+returns-3 c = let s = c .before .before .before in rw (toZ-ofZ w64 (s .args .year) (s .fits .year)) at (c .packed-day .ensures)
 
 pub packed-day-spec : {M : Type 1} → statement M
 packed-day-spec =
@@ -31,5 +31,5 @@ packed-day-spec =
     returns
     hebrew-day-requires
     returns-2
-    other-day-requires
+    packed-day-requires
     returns-3)
