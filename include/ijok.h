@@ -1,4 +1,4 @@
-/* The proved functions of crate exports, for C (C99) and C++. Link target/staticlib/libexports.a, which `rt staticlib exports` writes.
+/* The proved functions of the crates c_*, for C (C99) and C++. Link target/libijok.a, which `library/build` writes.
  *
  * An answer is a struct by value: first the answer number, 0 (IJOK_DONE) or why it is refused, then the values. A refusal has 0 in every
  * other field and changes no lent memory. So test the number before a value is used.

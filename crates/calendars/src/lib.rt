@@ -281,7 +281,7 @@ fn in_time(n: u64) -> u64
 // the compiler puts what follows next to it
 
 // Calendar 11.
-pub fn gregorian_day(year: i64, month: u64, day: u64) -> u64
+fn gregorian_day(year: i64, month: u64, day: u64) -> u64
     ensures { λ r. ⌜ r ≡ packedDay (dayAnswer 11 year month day) ⌝ }
 {
     if year_inside(year) {
@@ -294,7 +294,7 @@ pub fn gregorian_day(year: i64, month: u64, day: u64) -> u64
 }
 
 // Calendar 18.
-pub fn hebrew_day(year: i64, month: u64, day: u64) -> u64
+fn hebrew_day(year: i64, month: u64, day: u64) -> u64
     ensures { λ r. ⌜ r ≡ packedDay (dayAnswer 18 year month day) ⌝ }
 {
     if year < 1 {

@@ -1,4 +1,5 @@
 -- The number of each refusal, as the table of docs/RULES.md, "Answer numbers", lists it. An answer that is no refusal has the number 0.
+use mathlib.Core.Path.{_≡_}
 use Prim.Native.Nat.{ℕ}
 use Rattle.refusals.specs.declared.Refusal.{Refusal}
 use Rattle.refusals.specs.declared.Refusal.the-variants.{UnknownCalendar, YearOutOfRange, NoSuchMonth, NoSuchDay, DayOutOfRange}
@@ -16,3 +17,7 @@ numberOf MalformedFrame = 8
 numberOf WrongDay = 9
 numberOf LineOutOfLimits = 10
 numberOf BufferTooShort = 11
+
+-- an answer number that is a refusal's
+abbrev pub Refused : ℕ → Type 0
+Refused number = number ≡ 0 → ⊥

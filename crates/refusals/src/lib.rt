@@ -34,3 +34,10 @@ pub fn number(why: Refusal) -> u8
         Refusal::BufferTooShort => 11,
     }
 }
+
+// The same as a field of a struct that C gets.
+pub fn wide_number(why: Refusal) -> u64
+    ensures { λ r. ⌜ r ≡ numberOf why ⌝ }
+{
+    number(why) as u64
+}

@@ -1,0 +1,65 @@
+-- What is shown of the functions for C, on one page. Each promise in `src/lib.rt` is an equation, for every input: the fields of the struct that C gets
+-- (`dayFields`, `dateFields`, `lengthFields` of specs/Fields.antt) are the answer that crate calendar_rules defines (`dayAnswer`, `dateAnswer`,
+-- `lengthAnswer`). What these mean is on its claims page. Here: where the number is not 0, every other field is 0.
+use mathlib.Core.Path.{_≡_, refl}
+use mathlib.Core.Option.{Option}
+use Prim.Native.Nat.{ℕ}
+use lib.IntN.{ℤ, pos}
+use Rattle.basics.proofs.Cases.{cond-elim}
+use Rattle.refusals.specs.Number.{Refused}
+use Rattle.counting.specs.Answers.{Calendar, DayAnswer, DateAnswer, LengthAnswer, noDayAnswer, noDateAnswer, noLengthAnswer}
+use Rattle.counting.specs.Answers.{yearOut, noMonth, noDay, dayOut, dayNumber, dayFor, dateFor, lengthFor}
+use Rattle.calendar_rules.specs.Calendars.{calendar}
+use Rattle.calendar_rules.specs.Answers.{ofListed, dayAnswer, dateAnswer, lengthAnswer}
+
+-- what holds of the refusal and of every calendar's answer holds of what is answered for a number
+listed-elim : {A : Type 0} (P : A → Type 0) (o : Option Calendar) (refusal : A) (answer : Calendar → A) → P refusal → ((K : Calendar) → P (answer K))
+    → P (ofListed o refusal answer)
+listed-elim P Option.none refusal answer r f = r
+listed-elim P (Option.some K) refusal answer r f = f K
+
+-- ---- date to day
+
+pub record DayZero (x : DayAnswer) : Type 0 where
+  pub zero : Refused (x .number) → x .day ≡ 0
+
+no-day : (k : ℕ) → DayZero (noDayAnswer k)
+no-day k = record { zero = λ h. refl }
+
+pub day-zero : (c : ℕ) (y : ℤ) (m d : ℕ) → DayZero (dayAnswer c y m d)
+unfolding dayAnswer dayFor
+day-zero c y m d =
+    listed-elim DayZero (calendar c) _ _ (no-day 1)
+    (λ K. cond-elim DayZero (yearOut K y) _ _ (λ e. no-day 2)
+    (λ e. cond-elim DayZero (noMonth K y m) _ _ (λ e. no-day 3)
+    (λ e. cond-elim DayZero (noDay K y m d) _ _ (λ e. no-day 4)
+    (λ e. cond-elim DayZero (dayOut K (dayNumber K y m d)) _ _ (λ e. no-day 5) (λ e. record { zero = λ h. absurd (h refl) })))))
+
+-- ---- day to date
+
+pub record DateZero (x : DateAnswer) : Type 0 where
+  pub zero : Refused (x .number) → (x .year ≡ pos 0) × (x .month ≡ 0) × (x .day ≡ 0)
+
+no-date : (k : ℕ) → DateZero (noDateAnswer k)
+no-date k = record { zero = λ h. (refl, refl, refl) }
+
+pub date-zero : (c n : ℕ) → DateZero (dateAnswer c n)
+unfolding dateAnswer dateFor
+date-zero c n =
+    listed-elim DateZero (calendar c) _ _ (no-date 1)
+    (λ K. cond-elim DateZero (dayOut K n) _ _ (λ e. no-date 5) (λ e. record { zero = λ h. absurd (h refl) }))
+
+-- ---- the length of a position
+
+pub record LengthZero (x : LengthAnswer) : Type 0 where
+  pub zero : Refused (x .number) → x .days ≡ 0
+
+no-length : (k : ℕ) → LengthZero (noLengthAnswer k)
+no-length k = record { zero = λ h. refl }
+
+pub length-zero : (c : ℕ) (y : ℤ) (m : ℕ) → LengthZero (lengthAnswer c y m)
+unfolding lengthAnswer lengthFor
+length-zero c y m =
+    listed-elim LengthZero (calendar c) _ _ (no-length 1)
+    (λ K. cond-elim LengthZero (yearOut K y) _ _ (λ e. no-length 2)
+    (λ e. cond-elim LengthZero (noMonth K y m) _ _ (λ e. no-length 3) (λ e. record { zero = λ h. absurd (h refl) })))
