@@ -35,7 +35,7 @@ pub struct LengthFields {
 pub extern "C" fn ijok_date_to_day(calendar: u64, year: i64, month: u64, day: u64) -> DayFields
     ensures { λ r. ⌜ dayFields r ≡ dayAnswer calendar year month day ⌝ }
 {
-    let r = calendars::packed_day(calendar, year, month, day);
+    let r = numbering::packed_day(calendar, year, month, day);
     DayFields {
         number: r / 0x1_0000_0000,
         day: r % 0x1_0000_0000,

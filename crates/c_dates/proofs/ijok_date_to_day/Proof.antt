@@ -1,7 +1,7 @@
 -- `c_dates::ijok_date_to_day` meets its contract.
 use mir.Syntax.{w64}
 use mir.ValLaws.{toZ-ofZ}
-use Rattle.calendars.proofs.Answers.{fields}
+use Rattle.asking.proofs.Answers.{fields}
 use borrow.Author.Needs.{needs}
 use Rattle.c_dates.proofs.ijok_date_to_day.Statement.{statement}
 use Rattle.c_dates.proofs.ijok_date_to_day.Tie as tie

@@ -6,7 +6,7 @@ use mir.Syntax.{w64}
 use mir.ValLaws.{toZ-ofZ}
 use Rattle.counting.specs.Answers.{DayAnswer, noDayAnswer}
 use Rattle.calendar_rules.specs.Answers.{dayAnswer}
-use Rattle.calendars.proofs.Answers.{unpacks}
+use Rattle.asking.proofs.Answers.{unpacks}
 use borrow.Author.Needs.{needs}
 use Rattle.calendars.proofs.date_to_day.Statement.{statement}
 use Rattle.calendars.proofs.date_to_day.Tie as tie

@@ -1,48 +1,34 @@
 -- `calendars::day_to_date` meets its contract.
-use mathlib.Core.Path.{_∙_}
+use mathlib.Core.Path.{_≡_, sym, _∙_}
 use mir.Syntax.{w64}
 use mir.ValLaws.{toZ-ofZ}
-use Rattle.calendars.proofs.Answers.{late-date, lost-date, found-date}
+use Rattle.asking.proofs.Answers.{date-told}
 use borrow.Author.Needs.{needs}
 use Rattle.calendars.proofs.day_to_date.Statement.{statement}
 use Rattle.calendars.proofs.day_to_date.Tie as tie
+
+place-requires : tie.Need-place-requires
+place-requires c κs = search needs
 
 no-date-requires : tie.Need-no-date-requires
 no-date-requires c κs = search needs
 
 returns : tie.Need-returns
-returns c = let s = c .before .before in c .no-date .ensures ∙ late-date (s .args .calendar) (s .args .day) (c .before .if1 .taken)
-
-cast-place-on : tie.Need-cast-place-on
-cast-place-on c = search needs
-
-place-on-requires : tie.Need-place-on-requires
-place-on-requires c κs = search needs
-
-no-date-requires-2 : tie.Need-no-date-requires-2
-no-date-requires-2 c κs = search needs
+returns c =
+    let p = c .before .before .before in
+    let s = p .before in
+    c .no-date .ensures ∙ date-told (s .args .calendar) (s .args .day) .0 (sym (p .place .ensures .month) ∙ c .before .if1 .taken)
 
 returns-2 : tie.Need-returns-2
 returns-2 c =
     let p = c .before .before .before in
-    let s = p .before .before in
-    c .no-date2 .ensures ∙ lost-date (s .args .calendar) (s .args .day) (p .before .if1 .left) (p .place-on .ensures) (c .before .if2 .taken)
-
-returns-3 : tie.Need-returns-3
-returns-3 c =
-    let p = c .before .before .before in
-    let s = p .before .before in
-    rw (toZ-ofZ w64 (p .place-on .result .year) (record { sfits = c .struct-told .given .0 .1 }))
-    (found-date (s .args .calendar) (s .args .day) (p .before .if1 .left) (p .place-on .ensures) (c .before .if2 .left))
+    let s = p .before in
+    let f = p .place .ensures in
+    let n = c .before .if1 .left in
+    let z = date-told (s .args .calendar) (s .args .day) .1 (λ e. n (f .month ∙ e)) in
+    let g = f .rest n in
+    rw (toZ-ofZ w64 (p .place .result .year) (record { sfits = c .struct-told .given .0 .1 }))
+    (λ i. record { number = z i; year = g .0 i; month = f .month i; day = g .1 i })
 
 pub day-to-date-spec : {M : Type 1} → statement M
-day-to-date-spec =
-    tie.close
-    (tie.spec
-    no-date-requires
-    returns
-    cast-place-on
-    place-on-requires
-    no-date-requires-2
-    returns-2
-    returns-3)
+day-to-date-spec = tie.close (tie.spec place-requires no-date-requires returns returns-2)

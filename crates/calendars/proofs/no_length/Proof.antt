@@ -5,8 +5,8 @@ use native.Mathlib.Omega.{arith}
 use mir.Syntax.{w64}
 use mir.ValLaws.{toZ-ofZ}
 use Rattle.counting.specs.Answers.{noLengthAnswer}
-use Rattle.calendars.specs.Parts.{noneNumber}
-use Rattle.calendars.proofs.Answers.{none-within}
+use Rattle.asking.specs.Steps.{noneNumber}
+use Rattle.asking.proofs.Answers.{none-within}
 use borrow.Author.Needs.{needs}
 use Rattle.calendars.proofs.no_length.Statement.{statement}
 use Rattle.calendars.proofs.no_length.Tie as tie
