@@ -1,7 +1,7 @@
 // Lines and codes for C, C++ and Rust (`include/ijok.h`). An answer is returned as a struct by value, its number first; a slice passes as a pointer and
 // then a length.
+use codes::Line;
 use fitting::Fitted;
-use fitting::Line;
 use unfolding::Unfolded;
 ghost use mathlib.Core.Path.{_≡_};
 ghost use Rattle.lines.specs.Fit.{fitOf};

@@ -1,48 +1,15 @@
 // Fitting: the digital straight line with the least denominator that generates a code of month lengths.
+use codes::Line;
 use refusals::Refusal;
 ghost use mathlib.Core.Path.{_≡_};
 ghost use Prim.Native.Nat.{_+_, _-_, _≤_, _<_, min, max};
-ghost use Rattle.lines.specs.BandTest.{within};
 ghost use Rattle.lines.specs.Fit.{Within, fitOf};
 ghost use Rattle.fitting.specs.Paper.{fitPaper};
-
-// The limits of a code, fitted or unfolded.
-pub const MOST_LENGTHS: usize = 512;
-
-pub const LONGEST: u64 = 400;
-
-// The line whose mark at k is (a k + r) / b rounded down.
-pub struct Line {
-    pub a: u64,
-    pub b: u64,
-    pub r: u64,
-}
 
 // What fitting answers.
 pub enum Fitted {
     By(Line),
     Refused(Refusal),
-}
-
-// One to 512 lengths, none above 400.
-fn within_limits(code: &[u64]) -> bool
-    ensures { λ r. ⌜ r ≡ within (now (code .entry)) ⌝ }
-{
-    let n = code.len();
-    if n == 0 {
-        return false;
-    }
-    if MOST_LENGTHS < n {
-        return false;
-    }
-    let mut k: usize = 0;
-    while k < n {
-        if LONGEST < code[k] {
-            return false;
-        }
-        k += 1;
-    }
-    true
 }
 
 // The offsets from `low` up that also reach `level`.
@@ -124,7 +91,7 @@ fn least_denominator(code: &[u64]) -> Fitted
 pub fn fit(code: &[u64]) -> Fitted
     ensures { λ r. ⌜ fitPaper r ≡ fitOf (now (code .entry)) ⌝ }
 {
-    if within_limits(code) {
+    if codes::within_limits(code) {
         least_denominator(code)
     } else {
         Fitted::Refused(Refusal::CodeOutOfLimits)

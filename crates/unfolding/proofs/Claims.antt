@@ -14,7 +14,7 @@ use Rattle.lines.specs.Fit.{Answer, line, fitOf}
 use Rattle.lines.specs.Unfold.{unfolded, unfoldNumber, unfoldBuffer}
 use Rattle.lines.proofs.Claims as L
 use Rattle.lines.proofs.Unfolding.{LineWithin, line-is, done, unchanged}
-use Rattle.fitting.specs.declared.Line.{Line}
+use Rattle.codes.specs.declared.Line.{Line}
 use Rattle.fitting.specs.declared.Fitted.{Fitted}
 use Rattle.fitting.specs.declared.Fitted.the-variants.{By}
 use Rattle.fitting.specs.declared.Fitted.the-variants as F

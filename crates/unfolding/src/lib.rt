@@ -1,7 +1,7 @@
 // Unfolding: the lengths that a line yields.
-use fitting::LONGEST;
-use fitting::Line;
-use fitting::MOST_LENGTHS;
+use codes::LONGEST;
+use codes::Line;
+use codes::MOST_LENGTHS;
 use refusals::Refusal;
 ghost use mathlib.Core.Path.{_≡_};
 ghost use mathlib.Core.Bool.{true};

@@ -1,5 +1,5 @@
 -- `calendars::day_to_date` meets its contract.
-use mathlib.Core.Path.{_≡_, sym, _∙_}
+use mathlib.Core.Path.{sym, _∙_}
 use mir.Syntax.{w64}
 use mir.ValLaws.{toZ-ofZ}
 use Rattle.asking.proofs.Answers.{date-told}

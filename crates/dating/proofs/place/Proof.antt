@@ -1,5 +1,4 @@
 -- `dating::place` meets its contract.
-use native.Mathlib.Omega.{arith}
 use Rattle.asking.proofs.Answers.{late-date, no-date-found, date-found}
 use borrow.Author.Needs.{needs}
 use Rattle.dating.proofs.place.Statement.{statement}

@@ -1,12 +1,12 @@
 -- `numbering::gregorian_day` meets its contract.
-use mathlib.Core.Path.{_≡_, refl, sym, ap, subst, _∙_}
+use mathlib.Core.Path.{_≡_, refl, sym, subst, _∙_}
 use Prim.Native.Nat.{ℕ, _-_}
 use native.Mathlib.Omega.{arith}
 use lib.Dec.{eqb, ltb}
-use mathlib.Core.Bool.{Bool, true, false, not, _||_}
+use mathlib.Core.Bool.{Bool, true, false, _||_}
 use lib.IntN.{ℤ, negsuc}
 use lib.Signed.{ltZ}
-use borrow.Author.Tests.{not-true, not-false, eqb-true, eqb-false, ltb-true}
+use borrow.Author.Tests.{eqb-true, eqb-false, ltb-true}
 use mir.Syntax.{w64}
 use mir.Val.{toZ, ofZ}
 use mir.ValLaws.{toZ-ofZ}
@@ -14,7 +14,6 @@ use Rattle.basics.proofs.Cases.{neither}
 use Rattle.counting.specs.Answers.{lastYear, yearOut}
 use Rattle.counting.specs.Answers as A
 use Rattle.counting.specs.Years.{yearsFrom}
-use Rattle.counting.proofs.Signs.{place-back}
 use Rattle.calendar_rules.specs.Calendars.{gregorian, lookup, calendar}
 use Rattle.months.specs.Parts.{lengthAt, PackedAt}
 use Rattle.months.proofs.Dates.{no-length}
