@@ -1,19 +1,18 @@
-// The Hebrew calendar, 18: a year's first day and kind by the four gates, that is by where in the week its new moon falls, 6 hours on; a position of a
-// year, and the date of a day. Positions are counted from 0.
+// The Hebrew calendar, 18: a position of a year, and the date of a day. A year's first day and kind are those of crate gates. Positions are counted from 0.
+use gates::Year;
 use parts::Month;
 use parts::Place;
-ghost use mathlib.Core.Bool.{cond};
 ghost use mathlib.Core.List.{[]};
 ghost use mathlib.Core.Path.{_≡_};
-ghost use Prim.Native.Nat.{_+_, _-_, _*_, _≤_, _<_};
+ghost use Prim.Native.Nat.{_-_, _≤_, _<_};
 ghost use lib.IntN.{pos};
 ghost use lib.ListN.{getD};
 ghost use Rattle.counting.specs.Answers.{years, lastDay};
-ghost use Rattle.hebrew.specs.Hebrew.{leap, kinds};
+ghost use Rattle.hebrew.specs.Hebrew.{kinds};
 ghost use Rattle.hebrew.proofs.Calendar.{YearOf};
 ghost use Rattle.calendar_rules.specs.Calendars.{hebrew};
 ghost use Rattle.months.specs.Parts.{lengthAt, MonthOf, DateIs, PlaceTo};
-ghost use Rattle.months.specs.Hebrew.{HebrewYear, short, monthBefore, monthOf, monthsTo, gateDays, nextDays};
+ghost use Rattle.months.specs.Hebrew.{HebrewYear, short, monthBefore, monthOf};
 
 // The lengths of the positions: common deficient, regular, abundant, then leap deficient, regular, abundant.
 const KINDS: [[u8; 13]; 6] = [
@@ -68,76 +67,6 @@ fn month_before(kind: u64, word: u64, q: u64) -> u64
     30 * q - (word >> (4 * q)) % 16
 }
 
-// ---- the year
-
-// A year: its first day, 1 where it is leap, and its kind.
-struct Year {
-    start: u64,
-    leap: u64,
-    kind: u64,
-}
-
-// 13 more than the months before year y.
-fn months_to(y: u64) -> u64
-    requires { ⌜ y ≤ 65539 ⌝ }
-    ensures { λ r. ⌜ r ≡ monthsTo y ⌝ }
-{
-    (12969230 * y + 738000) >> 20
-}
-
-// 1 where year y is leap.
-fn leap_of(y: u64) -> u64
-    requires { ⌜ y ≤ 65538 ⌝ }
-    ensures { λ r. ⌜ (r ≡ cond (leap y) 1 0) × (r ≤ 1) ⌝ }
-{
-    months_to(y + 1) - months_to(y) - 12
-}
-
-// The days from Monday to the year's first day.
-fn gate_days(rest: u64, a: u64, b: u64) -> u64
-    ensures { λ r. ⌜ (r ≡ gateDays rest a b) × (r ≤ 7) ⌝ }
-{
-    parts::pick(a <= rest, 1, 0)
-        + 2
-            * (parts::pick(b <= rest, 1, 0)
-                + parts::pick(103680 <= rest, 1, 0)
-                + parts::pick(155520 <= rest, 1, 0))
-}
-
-// The days from Saturday to the next year's first day.
-fn next_days(far: u64, a: u64, b: u64) -> u64
-    ensures { λ r. ⌜ (r ≡ nextDays far a b) × (r ≤ 7) ⌝ }
-{
-    parts::pick(a <= far, 1, 0)
-        + 2
-            * (parts::pick(155520 <= far, 1, 0)
-                + parts::pick(b <= far, 1, 0)
-                + parts::pick(285120 <= far, 1, 0))
-}
-
-// Both first days from one new moon. The next is 4 or 5 days and some hours further in the week, past Thursday.
-fn year_at(y: u64) -> Year
-    requires { ⌜ (1 ≤ y) × (y ≤ 65537) ⌝ }
-    ensures { λ r. ⌜ HebrewYear y (r .start) (r .leap) (r .kind) × (r .leap ≤ 1) × (r .start ≤ 8589934592) ⌝ }
-{
-    let before = leap_of(y - 1);
-    let now = leap_of(y);
-    let after = leap_of(y + 1);
-    let m = months_to(y) * 765433 - 9938545;
-    let rest = m % 181440;
-    let here = gate_days(rest, 25920 - 2651 * before, 42324 + 9516 * now);
-    let there = next_days(
-        rest + 113196 + 39673 * now,
-        207360 - 2651 * now,
-        223764 + 9516 * after,
-    );
-    Year {
-        start: 347998 + 7 * (m / 181440) + here,
-        leap: now,
-        kind: there + now + 2 - here,
-    }
-}
-
 // ---- a position of the year that is i years after the first
 
 // The month of a position: the place that is no month in a common year is not counted.
@@ -154,7 +83,7 @@ pub fn length_at(i: u16, p: u64) -> u64
     if 12 < p {
         return 0;
     }
-    let y = year_at((i as u64) + 1);
+    let y = gates::year_after(i);
     month_days(y.kind, p)
 }
 
@@ -165,7 +94,7 @@ pub fn month_at(i: u16, p: u64) -> Month
     if 12 < p {
         return Month { start: 0, days: 0 };
     }
-    let y = year_at((i as u64) + 1);
+    let y = gates::year_after(i);
     if p + 8 * y.leap == 6 {
         return Month { start: 0, days: 0 };
     }
@@ -208,10 +137,10 @@ pub fn date_on(day: u32) -> Place
         return parts::nowhere();
     }
     let n = day as u64;
-    let y = (n - 347970) * 98496 / 35975351 + 1;
-    let year = year_at(y);
+    let i = (n - 347970) * 98496 / 35975351;
+    let year = gates::year_after(i as u16);
     if n < year.start {
-        return date_in(y - 1, year_at(y - 1), n);
+        return date_in(i, gates::year_after((i - 1) as u16), n);
     }
-    date_in(y, year, n)
+    date_in(i + 1, year, n)
 }

@@ -1,11 +1,14 @@
 -- `hebrew_days::date_on` meets its contract.
-use Prim.Native.Nat.{ℕ, _≤_}
+use mathlib.Core.Path.{_≡_, subst}
+use Prim.Native.Nat.{ℕ, _+_, _-_, _*_, _/_, _≤_}
 use native.Mathlib.Omega.{arith}
 use lib.IntN.{ℤ, pos}
 use Rattle.counting.specs.Answers.{years, lastDay}
+use Rattle.hebrew.proofs.Calendar.{YearOf}
 use Rattle.hebrew.proofs.Estimate.{estimate, estimate-right, estimate-high}
 use Rattle.calendar_rules.specs.Calendars.{hebrew}
 use Rattle.months.specs.Parts.{PlaceOf, PlaceTo}
+use Rattle.months.specs.Hebrew.{HebrewYear}
 use Rattle.months.proofs.Dates.{early-place, later-place}
 use borrow.Author.Needs.{needs}
 use Rattle.hebrew_days.proofs.date_on.Statement.{statement}
@@ -29,39 +32,46 @@ returns-2 c =
     let s = c .before .before .before in
     to-last (s .args .day) (omega arith) (early-place (years hebrew) (pos 1) 347998 (s .args .day) _ _ _ (omega arith) (c .nowhere2 .ensures))
 
-sub-y : tie.Need-sub-y
-sub-y c = search needs
+sub-i : tie.Need-sub-i
+sub-i c = search needs
 
-mul-y : tie.Need-mul-y
-mul-y c = search needs
+mul-i : tie.Need-mul-i
+mul-i c = search needs
 
-add-y : tie.Need-add-y
-add-y c = search needs
+cast-year-after : tie.Need-cast-year-after
+cast-year-after c = search needs
 
-year-at-requires : tie.Need-year-at-requires
-year-at-requires c κs = search needs
+year-after-requires : tie.Need-year-after-requires
+year-after-requires c κs = search needs
 
-sub-date-in : tie.Need-sub-date-in
-sub-date-in c = search needs
-
-sub-year-at : tie.Need-sub-year-at
-sub-year-at c = search needs
-
-year-at-requires-2 : tie.Need-year-at-requires-2
+sub-year-after : tie.Need-sub-year-after
 unfolding estimate
-year-at-requires-2 c κs =
+sub-year-after c =
     let y = c .before .before in
     let s = y .before .before .before in
-    let g = estimate-high (s .args .day) (omega arith) (omega (arith, y .year-at .ensures .0 .begins)) in
-    omega (arith, g .0)
+    omega (arith, estimate-high (s .args .day) (omega arith) (omega (arith, y .year-after .ensures .0 .begins)) .0)
+
+cast-year-after-2 : tie.Need-cast-year-after-2
+cast-year-after-2 c = search needs
+
+year-after-requires-2 : tie.Need-year-after-requires-2
+year-after-requires-2 c κs = search needs
 
 date-in-requires : tie.Need-date-in-requires
 unfolding estimate
 date-in-requires c κs =
     let y = c .before .before .before in
     let s = y .before .before .before in
-    let g = estimate-high (s .args .day) (omega arith) (omega (arith, y .year-at .ensures .0 .begins)) in
-    (g .1, c .year-at2 .ensures .0, c .year-at2 .ensures .1, omega arith)
+    let g = estimate-high (s .args .day) (omega arith) (omega (arith, y .year-after .ensures .0 .begins)) in
+    let i : ℕ = (s .args .day - 347970) * 98496 / 35975351 in
+    let r = c .year-after2 .result in
+    let e : estimate (s .args .day) - 1 ≡ i = omega arith in
+    let f : i - 1 + 1 ≡ i = omega arith in (
+      subst (YearOf (s .args .day)) e (g .1),
+      subst (λ (k : ℕ). HebrewYear k (r .start) (r .leap) (r .kind)) f (c .year-after2 .ensures .0),
+      c .year-after2 .ensures .1,
+      omega arith,
+    )
 
 returns-3 : tie.Need-returns-3
 returns-3 c =
@@ -69,14 +79,17 @@ returns-3 c =
     let day = e .before .before .args .day in
     to-last day (omega arith) (later-place (years hebrew) (pos 1) 347998 day _ _ _ (omega arith) (c .date-in .ensures))
 
+add-date-in : tie.Need-add-date-in
+add-date-in c = search needs
+
 date-in-requires-2 : tie.Need-date-in-requires-2
 unfolding estimate
 date-in-requires-2 c κs =
     let y = c .before .before in
     let s = y .before .before .before in (
-      estimate-right (s .args .day) (omega arith) (omega (arith, y .year-at .ensures .0 .begins)),
-      y .year-at .ensures .0,
-      y .year-at .ensures .1,
+      estimate-right (s .args .day) (omega arith) (omega (arith, y .year-after .ensures .0 .begins)),
+      y .year-after .ensures .0,
+      y .year-after .ensures .1,
       omega arith,
     )
 
@@ -94,14 +107,15 @@ date-on-spec =
     returns
     nowhere-requires-2
     returns-2
-    sub-y
-    mul-y
-    add-y
-    year-at-requires
-    sub-date-in
-    sub-year-at
-    year-at-requires-2
+    sub-i
+    mul-i
+    cast-year-after
+    year-after-requires
+    sub-year-after
+    cast-year-after-2
+    year-after-requires-2
     date-in-requires
     returns-3
+    add-date-in
     date-in-requires-2
     returns-4)

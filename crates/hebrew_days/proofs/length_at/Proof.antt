@@ -12,11 +12,8 @@ use Rattle.hebrew_days.proofs.length_at.Tie as tie
 returns : tie.Need-returns
 returns c = let s = c .before in no-length (years hebrew) (s .args .i) (s .args .p) (omega (arith, hebrew-positions (s .args .i)))
 
-add-year-at : tie.Need-add-year-at
-add-year-at c = search needs
-
-year-at-requires : tie.Need-year-at-requires
-year-at-requires c κs = search needs
+year-after-requires : tie.Need-year-after-requires
+year-after-requires c κs = search needs
 
 month-days-requires : tie.Need-month-days-requires
 month-days-requires c κs = search needs
@@ -25,8 +22,8 @@ returns-2 : tie.Need-returns-2
 returns-2 c =
     let y = c .before in
     let s = y .before .before in
-    c .month-days .ensures ∙ hebrew-length (s .args .i) (s .args .p) _ _ _ (y .year-at .ensures .0)
+    c .month-days .ensures ∙ hebrew-length (s .args .i) (s .args .p) _ _ _ (y .year-after .ensures .0)
 
 pub length-at-spec : {M : Type 1} → statement M
 length-at-spec =
-    tie.close (tie.spec returns add-year-at year-at-requires month-days-requires returns-2)
+    tie.close (tie.spec returns year-after-requires month-days-requires returns-2)

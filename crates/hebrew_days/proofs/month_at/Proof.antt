@@ -16,22 +16,19 @@ use Rattle.hebrew_days.proofs.month_at.Tie as tie
 
 -- the length by the word
 word : (b : tie.After-month-before2) → let y = b .before .before .before .before .before .before in let s = y .before .before in
-    let k = y .year-at .result .kind in
-    let q = monthOf (y .year-at .result .leap) (s .args .p) in
+    let k = y .year-after .result .kind in
+    let q = monthOf (y .year-after .result .leap) (s .args .p) in
     (monthBefore k q ≤ monthBefore k (q + 1)) × (monthBefore k (q + 1) - monthBefore k q ≡ getD (getD kinds k []) (s .args .p) 0)
 word b =
     let e = b .before .before .before .before in
     let y = e .before .before in
-    word-length (omega arith) (y .year-at .ensures .0) (y .before .before .args .p) (omega arith) (e .if2 .left)
+    word-length (omega arith) (y .year-after .ensures .0) (y .before .before .args .p) (omega arith) (e .if2 .left)
 
 returns : tie.Need-returns
 returns c = let s = c .before in no-month (years hebrew) 347998 (s .args .i) (s .args .p) 0 (omega (arith, hebrew-positions (s .args .i)))
 
-add-year-at : tie.Need-add-year-at
-add-year-at c = search needs
-
-year-at-requires : tie.Need-year-at-requires
-year-at-requires c κs = search needs
+year-after-requires : tie.Need-year-after-requires
+year-after-requires c κs = search needs
 
 mul-if2 : tie.Need-mul-if2
 mul-if2 c = search needs
@@ -43,7 +40,7 @@ returns-2 : tie.Need-returns-2
 returns-2 c =
     let y = c .before .before in
     let s = y .before .before in
-    let x = y .year-at .ensures .0 in
+    let x = y .year-after .ensures .0 in
     none-there (years hebrew) 347998 (s .args .i) (s .args .p) 0
     (sym (no-month-there (omega arith) x (s .args .p) (omega arith) (c .if2 .taken)) ∙ hebrew-length (s .args .i) (s .args .p) _ _ _ x)
 
@@ -63,7 +60,7 @@ month-before-requires-2 : tie.Need-month-before-requires-2
 month-before-requires-2 c κs =
     let w = c .before in
     let y = w .before .before .before .before in
-    (y .year-at .ensures .0 .below, w .shortfall .ensures, omega (arith, w .before .month-of .ensures .1))
+    (y .year-after .ensures .0 .below, w .shortfall .ensures, omega (arith, w .before .month-of .ensures .1))
 
 add-t10 : tie.Need-add-t10
 add-t10 c = search needs
@@ -80,8 +77,8 @@ returns-3 c =
     let y = m .before .before .before in
     let s = y .before .before in
     let e = m .month-of .ensures .0 in
-    hebrew-month (s .args .i) (s .args .p) _ _ _ _ _ (omega arith) (y .year-at .ensures .0)
-    (ap (λ (k : ℕ). y .year-at .result .start + k) (rw e at (b .before .month-before .ensures)))
+    hebrew-month (s .args .i) (s .args .p) _ _ _ _ _ (omega arith) (y .year-after .ensures .0)
+    (ap (λ (k : ℕ). y .year-after .result .start + k) (rw e at (b .before .month-before .ensures)))
     ((λ j. (rw e at (b .month-before2 .ensures)) j - (rw e at (b .before .month-before .ensures)) j) ∙ word b .1)
 
 pub month-at-spec : {M : Type 1} → statement M
@@ -89,8 +86,7 @@ month-at-spec =
     tie.close
     (tie.spec
     returns
-    add-year-at
-    year-at-requires
+    year-after-requires
     mul-if2
     add-if2
     returns-2

@@ -1,9 +1,9 @@
--- `hebrew_days::year_at` meets its contract.
+-- `gates::year_at` meets its contract.
 use native.Mathlib.Omega.{arith}
 use Rattle.months.proofs.HebrewGates.{moon-is, year-found}
 use borrow.Author.Needs.{needs}
-use Rattle.hebrew_days.proofs.year_at.Statement.{statement}
-use Rattle.hebrew_days.proofs.year_at.Tie as tie
+use Rattle.gates.proofs.year_at.Statement.{statement}
+use Rattle.gates.proofs.year_at.Tie as tie
 
 sub-leap-of : tie.Need-sub-leap-of
 sub-leap-of c = search needs

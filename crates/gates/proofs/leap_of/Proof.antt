@@ -1,11 +1,11 @@
--- `hebrew_days::leap_of` meets its contract.
+-- `gates::leap_of` meets its contract.
 use native.Mathlib.Omega.{arith}
 use Rattle.hebrew.specs.Hebrew.{leap}
 use Rattle.months.proofs.Years.{flag}
 use Rattle.months.proofs.HebrewGates.{leap-number}
 use borrow.Author.Needs.{needs}
-use Rattle.hebrew_days.proofs.leap_of.Statement.{statement}
-use Rattle.hebrew_days.proofs.leap_of.Tie as tie
+use Rattle.gates.proofs.leap_of.Statement.{statement}
+use Rattle.gates.proofs.leap_of.Tie as tie
 
 add-months-to : tie.Need-add-months-to
 add-months-to c = search needs
