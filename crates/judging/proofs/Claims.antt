@@ -1,6 +1,6 @@
 -- What is proved of sheets: the page to read first. It rests on specs/Verdict.antt of crate verdicts (the verdict on a line), specs/Lines.antt of crate
--- streaming (lines, and what is written for them) and specs/Sheet.antt (the output for an input). specs/Kept.antt says what a call of the code does with a
--- piece; the last claim takes any run of such calls to the output of the whole input.
+-- streaming (lines, and what is written for them) and specs/Sheet.antt of crate replying (the output for an input). specs/Piece.antt, with specs/Kept.antt
+-- of crate pieces, says what a call of the code does with a piece; the last claim takes any run of such calls to the output of the whole input.
 use mathlib.Core.Path.{_≡_, refl, sym, ap, _∙_}
 use mathlib.Core.List.{List, [], _∷_, _++_}
 use Prim.Native.Nat.{ℕ, _*_, _<_}
@@ -12,11 +12,12 @@ use Rattle.streaming.specs.Lines.{newline, linesOf, replies}
 use Rattle.streaming.specs.Pieces.{answers, ending, inPieces, joined}
 use Rattle.streaming.proofs.Claims.{w-bytes-a-line, reply-of-each-line, cut-at-a-newline, in-any-pieces}
 use Rattle.verdicts.specs.Verdict.{verdictOf}
-use Rattle.judging.specs.declared.Unfinished.{Unfinished}
+use Rattle.pieces.specs.declared.Unfinished.{Unfinished}
+use Rattle.pieces.specs.Kept.{most, keptOf}
+use Rattle.replying.specs.Sheet.{twoDigits, reply, judging, sheetOf}
+use Rattle.replying.proofs.Claims.{three-bytes, reads}
 use Rattle.judging.specs.declared.Progress.{Progress}
-use Rattle.judging.specs.Sheet.{twoDigits, reply, judging, sheetOf}
-use Rattle.judging.specs.Kept.{most, keptOf, Judged, endingOf}
-use Rattle.judging.proofs.Piece.{reads, three-bytes}
+use Rattle.judging.specs.Piece.{Judged, endingOf}
 
 -- each line's answer is fixed by that line: three bytes a line, those of the kth line from 3 k on
 pub three-bytes-a-line : (s : List ℕ) → length (sheetOf s) ≡ length (linesOf s) * 3

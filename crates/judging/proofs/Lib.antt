@@ -1,4 +1,2 @@
 pub mod Claims
-pub mod Example
-pub mod FirstBytes
 pub mod Piece

@@ -4,37 +4,31 @@ use mathlib.Core.List.{List, [], _∷_, _++_}
 use Prim.Native.Nat.{ℕ, _+_, _-_, _*_, _/_, _≤_, _<_, min}
 use native.Mathlib.Omega.{arith}
 use lib.ListN.{length, take, drop, getD, length-append, length-drop, length-take}
-use lib.Seq.{drop-cons, take-suc, getD-drop, getD-take}
-use Rattle.hex.specs.Digits.{digitOf, writtenIn}
+use lib.Seq.{drop-cons, take-suc, take-all, getD-drop}
+use Rattle.hex.specs.Digits.{digitOf}
 use Rattle.hex.proofs.Claims.{sixteen-parts}
 use Rattle.hex.proofs.Laws.{plain-digits}
 use Rattle.streaming.specs.Lines.{newline}
 use Rattle.streaming.specs.Pieces.{answers}
 use Rattle.streaming.specs.Work.{WorkedFrom}
-use Rattle.streaming.proofs.Pieces.{Reads}
 use Rattle.streaming.proofs.Newlines.{Plain}
 use Rattle.streaming.proofs.Work.{unended, ended, whole-line, whole-input, few, same-size}
+use Rattle.verdicts.specs.Verdict.{verdictOf}
+use Rattle.pieces.specs.declared.Unfinished.{Unfinished}
+use Rattle.pieces.specs.declared.Part.{Part}
+use Rattle.pieces.specs.Kept.{most, keptOf, GoneOn}
+use Rattle.pieces.proofs.Claims.{end-within, end-at-newline, no-newline-before}
+use Rattle.replying.specs.declared.Line.the-variants.{Frame}
+use Rattle.replying.specs.Sheet.{twoDigits, judging}
+use Rattle.replying.specs.First.{firstLine}
+use Rattle.replying.proofs.Claims.{three-bytes, reads, Begins, frame-first}
 use Rattle.judging.specs.declared.Ending.{Ending}
 use Rattle.judging.specs.declared.Progress.{Progress}
-use Rattle.judging.specs.declared.Unfinished.{Unfinished}
-use Rattle.verdicts.specs.Verdict.{verdictOf}
-use Rattle.judging.specs.Sheet.{twoDigits, judging}
-use Rattle.judging.specs.Kept.{most, keptOf, taken, Judged, endingOf}
-use Rattle.judging.specs.Inner.{FrameAt, LineEnd, Put, TakesFrom}
-use Rattle.judging.proofs.FirstBytes.{first-bytes}
-
--- ---- replies
-
--- 17 bytes of a line fix its reply
-pub reads : Reads most judging
-reads = record { reply = λ s line. ap twoDigits (first-bytes line); move = λ s line. refl }
-
-pub three-bytes : (n : ℕ) → length (twoDigits n) ≡ 3
-unfolding twoDigits writtenIn
-three-bytes n = refl
+use Rattle.judging.specs.Piece.{taken, Judged, endingOf}
+use Rattle.judging.specs.Inner.{Put, TakesFrom}
 
 -- no byte has more than three written
-pub few-written : {input : List ℕ} {i j : ℕ} {kept kept′ out out′ : List ℕ} {at at′ : ℕ} → WorkedFrom judging most input i j tt kept out at tt kept′ out′ at′
+few-written : {input : List ℕ} {i j : ℕ} {kept kept′ out out′ : List ℕ} {at at′ : ℕ} → WorkedFrom judging most input i j tt kept out at tt kept′ out′ at′
     → at′ ≤ at + (j - i) * 3
 few-written w = few judging 3 (λ s line. three-bytes (verdictOf line)) w
 
@@ -43,6 +37,11 @@ pub same-buffer : {input : List ℕ} {i j : ℕ} {kept kept′ out out′ : List
     → WorkedFrom judging most input i j tt kept out at tt kept′ out′ at′ → length out′ ≡ length out
 same-buffer h w = same-size (w .work) (omega (arith, few-written w, w .on, w .within))
 
+-- and room for an answer to each byte that is left
+pub room : {input : List ℕ} {i j : ℕ} {kept kept′ out out′ : List ℕ} {at at′ : ℕ} → at + (length input - i) * 3 ≤ length out
+    → WorkedFrom judging most input i j tt kept out at tt kept′ out′ at′ → at′ + (length input - j) * 3 ≤ length out′
+room h w = omega (arith, few-written w, same-buffer h w, w .on, w .within)
+
 -- ---- what is taken
 
 -- the answer v, put behind what was written
@@ -50,33 +49,46 @@ answer-put : {out out′ : List ℕ} {v x p : ℕ} (at at′ : ℕ) → v ≡ x 
     → out′ ≡ take at out ++ (twoDigits x ++ drop at′ out)
 answer-put at at′ w o e i = rw (i, ← w, ← e) (o .buffer)
 
--- the line of a frame
-pub frame-taken : {input out out′ : List ℕ} {from next v at at′ q p : ℕ} → from + 16 < length input → at ≤ length out → FrameAt input q v → Put v p out out′
-    → q ≡ from → p ≡ at → next ≡ from + 17 → at′ ≡ at + 3 → WorkedFrom judging most input from next tt [] out at tt [] out′ at′
+-- what is left of an input from a place on
+rest : (input : List ℕ) (from : ℕ) → take (length input - from) (drop from input) ≡ drop from input
+rest input from = take-all (length input - from) (drop from input) (omega (arith, length-drop from input))
+
+-- a frame that stands at a place
+pub frame-at : (input : List ℕ) (q from v : ℕ) → Frame v ≡ firstLine (take (length input - q) (drop q input)) → q ≡ from → Begins (drop from input) v
+frame-at input q from v g e = frame-first (drop from input) v .0 (rw (rest input from) at (rw e at g))
+
+-- its line
+pub frame-taken : {input out out′ : List ℕ} {from next v at at′ p : ℕ} → at ≤ length out → Begins (drop from input) v → Put v p out out′ → p ≡ at
+    → next ≡ from + 17 → at′ ≡ at + 3 → WorkedFrom judging most input from next tt [] out at tt [] out′ at′
 unfolding digitOf
-frame-taken {input} {out} {out′} {from} {next} {v} {at} {at′} h a g o eq ep en i =
+frame-taken {input} {out} {out′} {from} {next} {v} {at} {at′} a f o ep en i =
     let line = take 16 (drop from input) in
-    let f : FrameAt input from v = rw eq at g in
     let plain : Plain line = record { none = plain-digits line (sixteen-parts line (f .digits) .1) newline refl } in
     let n : next - from ≡ 17 = omega arith in
-    let s = take-suc (drop from input) 16 0 (omega (arith, length-drop from input)) in
-    let b : take 17 (drop from input) ≡ line ++ newline ∷ [] = s ∙ ap (λ (x : ℕ). line ++ x ∷ []) (getD-drop from input 16 0 ∙ f .ends) in
+    let b : take 17 (drop from input) ≡ line ++ newline ∷ [] =
+    take-suc (drop from input) 16 0 (f .within) ∙ ap (λ (x : ℕ). line ++ x ∷ []) (f .ends) in
     let w = whole-line judging most (omega arith) reads plain a refl (i
     ∙ omega (arith, three-bytes (verdictOf line))) (answer-put at at′ (f .verdict) o ep i) in
-    record { on = omega arith; within = omega arith; work = rw (n, b) w }
+    record { on = omega arith; within = omega (arith, f .within, length-drop from input); work = rw (n, b) w }
 
--- the bytes of a line up to its newline, or to the end of the input
-pub line-taken : {kept kept′ input : List ℕ} {from end : ℕ} (out : List ℕ) (at : ℕ) → at ≤ length out → LineEnd input from end
-    → kept′ ≡ take most (kept ++ take (end - from) (drop from input))
-    → WorkedFrom judging most input from end tt kept out at tt kept′ out at
-line-taken {kept} {kept′} {input} {from} {end} out at a l k =
-    let line = take (end - from) (drop from input) in
-    let size = length-take (end - from) (drop from input) in
-    let p : Plain line = record {
-      none = λ i h e. l .plain (from + i) (omega arith) (omega arith)
-          (sym (getD-take (end - from) (drop from input) i 0 (omega arith) ∙ getD-drop from input i 0) ∙ e);
-    } in
-    record { on = l .on; within = l .within; work = unended judging most tt out at p a k }
+module _ (u : Unfinished) (input : List ℕ) (from end : ℕ) (r : Part) (g : GoneOn u (take (length input - from) (drop from input)) r) (e : end ≡ from + r .end)
+  where
+    gone : GoneOn u (drop from input) r
+    gone = rw (rest input from) at g
+
+    -- the bytes of a line up to its newline, or to the end of the input
+    pub line-taken : (out : List ℕ) (at : ℕ) → at ≤ length out → from ≤ length input → TakesFrom u input from end out at (r .line) out at
+    line-taken out at a h =
+        let n : end - from ≡ r .end = omega arith in
+        record {
+          on = omega arith;
+          within = omega (arith, gone .end, end-within (drop from input), length-drop from input);
+          work = rw n (unended judging most tt out at (rw (gone .end) (no-newline-before (drop from input))) a (gone .line));
+        }
+
+    pub line-ends : end < length input → getD input end 0 ≡ newline
+    line-ends h =
+        rw e (sym (getD-drop from input (r .end) 0) ∙ rw (gone .end) (end-at-newline (drop from input) (omega (arith, gone .end, length-drop from input))))
 
 -- and the newline
 pub newline-taken : {kept input out out′ : List ℕ} {end next at at′ v p : ℕ} → end < length input → getD input end 0 ≡ newline → v ≡ verdictOf kept
@@ -91,15 +103,6 @@ newline-taken {kept} {input} {out} {out′} {end} {next} {at} {at′} {v} h e w 
       work = rw (n, b)
           (ended judging most refl (i ∙ omega (arith, three-bytes (verdictOf kept))) (answer-put at at′ w o ep i));
     }
-
--- what is kept has room in the array
-pub kept-few : (u : Unfinished) → length (u .bytes) ≡ 17 → length (keptOf u) ≤ most
-unfolding keptOf
-kept-few u h = omega (arith, length-take (u .count) (u .bytes))
-
-pub none-kept : (u : Unfinished) → u .count ≡ 0 → [] ≡ keptOf u
-unfolding keptOf
-none-kept u h = rw h
 
 -- all of an input
 pub judged : {u u′ : Unfinished} {input out out′ : List ℕ} {i at consumed written : ℕ} → TakesFrom u input 0 i out 0 u′ out′ at → i ≡ length input

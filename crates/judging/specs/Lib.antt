@@ -1,3 +1,2 @@
-pub mod Sheet
-pub mod Kept
+pub mod Piece
 pub mod Inner

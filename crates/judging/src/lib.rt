@@ -2,32 +2,15 @@
 // `proofs/Claims.antt` is the page to read first.
 mod lines;
 
-use lines::kept_number;
 use lines::put;
-use lines::take_some;
+use lines::take_frames;
+use lines::take_line;
+use pieces::Unfinished;
 ghost use mathlib.Core.Path.{_≡_};
-ghost use mathlib.Core.List.{[]};
 ghost use Prim.Native.Nat.{_*_, _≤_, min};
 ghost use lib.ListN.{length};
-ghost use Rattle.judging.specs.Kept.{keptOf, taken, Judged, endingOf};
-
-// What is kept of a line that the pieces so far have not finished: its first bytes, one more than a frame has.
-pub struct Unfinished {
-    bytes: [u8; 17],
-    count: usize,
-}
-
-impl Unfinished {
-    // Before the first piece.
-    pub fn new() -> Self
-        ensures { λ r. ⌜ keptOf r ≡ [] ⌝ }
-    {
-        Unfinished {
-            bytes: [0u8; 17],
-            count: 0,
-        }
-    }
-}
+ghost use Rattle.pieces.specs.Kept.{keptOf};
+ghost use Rattle.judging.specs.Piece.{taken, Judged, endingOf};
 
 // What a call has done with a piece: the state for the next, how many bytes of the piece it took, and how many it wrote.
 pub struct Progress {
@@ -45,11 +28,16 @@ fn judge_all(start: Unfinished, input: &[u8], out: &mut [u8]) -> Progress
     let mut written = 0;
     let mut i = 0;
     while i < input.len() {
-        let done = take_some(state, input, i, out, written);
-        let after = done.state;
-        state = after;
-        written = done.written;
-        i = done.next;
+        let run = take_frames(state, input, i, out, written);
+        written = run.written;
+        i = run.next;
+        if i < input.len() {
+            let done = take_line(state, input, i, out, written);
+            let after = done.state;
+            state = after;
+            written = done.written;
+            i = done.next;
+        }
     }
     Progress {
         state,
@@ -86,7 +74,7 @@ pub fn finish(state: Unfinished) -> Ending
     if state.count == 0 {
         return Ending { bytes, count: 0 };
     }
-    let answer = kept_number(state);
+    let answer = replying::kept_number(state);
     put(&mut bytes, 0, answer);
     Ending { bytes, count: 3 }
 }

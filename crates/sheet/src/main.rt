@@ -1,10 +1,10 @@
 // The sheet program: frames from standard input, one a line, and their answer numbers to standard output. All that matters is in
 // `judging`; here is only reading and writing.
 use judging::Progress;
-use judging::Unfinished;
+use pieces::Unfinished;
 ghost use Prim.Native.Nat.{_*_, _≤_};
 ghost use lib.ListN.{length};
-ghost use Rattle.judging.specs.Kept.{Judged};
+ghost use Rattle.judging.specs.Piece.{Judged};
 
 // Judges a piece for whose answers output has room: all of it is taken.
 fn judge(state: Unfinished, piece: &[u8], output: &mut [u8]) -> Progress

@@ -5,10 +5,12 @@ use native.Mathlib.Omega.{arith}
 use lib.ListN.{length}
 use borrow.Author.Needs.{needs}
 use Rattle.streaming.proofs.Work.{none-from, then-from}
-use Rattle.judging.specs.Sheet.{judging}
-use Rattle.judging.specs.Kept.{most, keptOf}
+use Rattle.pieces.specs.Kept.{most, keptOf}
+use Rattle.pieces.proofs.Kept.{kept-few}
+use Rattle.replying.specs.Sheet.{judging}
+use Rattle.replying.proofs.Claims.{reads}
 use Rattle.judging.specs.Inner.{TakesFrom}
-use Rattle.judging.proofs.Piece.{reads, few-written, same-buffer, kept-few, judged}
+use Rattle.judging.proofs.Piece.{same-buffer, room, judged}
 use Rattle.judging.proofs.judge_all.Statement.{statement}
 use Rattle.judging.proofs.judge_all.Tie as tie
 
@@ -24,16 +26,36 @@ loop-holds c =
     let e : length (u .bytes) ≡ 17 = search needs in
     none-from judging most tt (keptOf u) _ 0 (omega arith) (kept-few u e) (omega arith)
 
-take-some-requires : tie.Need-take-some-requires Inv-loop μ-loop
-take-some-requires c κs = let i = c .before .before .loop .inv in (omega arith, omega (arith, few-written i, same-buffer (omega arith) i))
+take-frames-requires : tie.Need-take-frames-requires Inv-loop μ-loop
+take-frames-requires c κs = let l = c .before .before .loop in (l .inv .within, room (omega arith) (l .inv))
+
+-- the frames taken
+frames : (c : tie.After-take-frames Inv-loop μ-loop)
+    → let l = c .before .before .before in
+    let a = l .before .before .before .args in
+    let r = c .take-frames .result in
+    TakesFrom (a .start) (a .input .now) 0 (r .next) (a .out .now) 0 (l .loop .state) (c .take-frames .last .1 .1 .1 .0) (r .written)
+frames c = then-from judging most (omega arith) reads (omega arith) (c .before .before .before .loop .inv) (c .take-frames .ensures)
+
+take-line-requires : tie.Need-take-line-requires Inv-loop μ-loop
+take-line-requires c κs = let f = frames (c .before .before .before .before) in (omega arith, room (omega arith) f)
 
 loop-less : tie.Need-loop-less Inv-loop μ-loop
-loop-less c = let t = c .before .before .before in omega (arith, t .take-some .ensures .0 .within, t .take-some .ensures .1)
+loop-less c =
+    let t = c .before .before .before in
+    let l = t .take-line .ensures in
+    omega (arith, t .before .before .before .before .before .take-frames .ensures .on, l .0 .within, l .1)
 
 loop-again : tie.Need-loop-again Inv-loop μ-loop
 loop-again c =
-    let t = c .before .before .before in then-from judging most (omega arith) reads (omega arith) (t .before .before .before .loop .inv)
-    (t .take-some .ensures .0)
+    let t = c .before .before .before in
+    then-from judging most (omega arith) reads (omega arith) (frames (t .before .before .before .before .before)) (t .take-line .ensures .0)
+
+loop-less-2 : tie.Need-loop-less-2 Inv-loop μ-loop
+loop-less-2 c = omega arith
+
+loop-again-2 : tie.Need-loop-again-2 Inv-loop μ-loop
+loop-again-2 c = frames (c .before .before .before)
 
 same-length : tie.Need-same-length Inv-loop μ-loop
 same-length c = same-buffer (omega arith) (c .before .loop .inv)
@@ -48,8 +70,11 @@ judge-all-spec =
     Inv-loop
     μ-loop
     loop-holds
-    take-some-requires
+    take-frames-requires
+    take-line-requires
     loop-less
     loop-again
+    loop-less-2
+    loop-again-2
     same-length
     returns)

@@ -4,7 +4,7 @@ use Prim.Native.Nat.{ℕ, _/_, min}
 use native.Mathlib.Omega.{arith}
 use lib.ListN.{length, take}
 use lib.Seq.{length-take-le}
-use Rattle.judging.specs.Kept.{Judged}
+use Rattle.judging.specs.Piece.{Judged}
 use borrow.Author.Needs.{needs}
 use Rattle.judging.proofs.judge_piece.Statement.{statement}
 use Rattle.judging.proofs.judge_piece.Tie as tie

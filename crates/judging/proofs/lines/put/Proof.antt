@@ -7,8 +7,8 @@ use native.Mathlib.Numerals.{add-one, add-two}
 use lib.ListN.{set, length, take, drop, length-set}
 use lib.Seq.{sets-eq}
 use borrow.Author.Needs.{needs}
-use Rattle.judging.specs.Sheet.{twoDigits}
 use Rattle.hex.specs.Digits.{hexByte, writtenIn}
+use Rattle.replying.specs.Sheet.{twoDigits}
 use Rattle.judging.proofs.lines.put.Statement.{statement}
 use Rattle.judging.proofs.lines.put.Tie as tie
 

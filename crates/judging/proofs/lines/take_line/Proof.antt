@@ -1,40 +1,43 @@
 -- `judging::lines::take_line` meets its contract.
-use Prim.Native.Nat.{_<_}
+use mathlib.Core.Path.{_≡_, refl}
+use Prim.Native.Nat.{ℕ, _+_, _<_}
 use native.Mathlib.Omega.{arith}
 use lib.ListN.{length}
-use Rattle.streaming.proofs.Work.{then-from}
-use Rattle.judging.specs.Sheet.{judging}
-use Rattle.judging.specs.Kept.{most}
-use Rattle.judging.specs.Inner.{TakesFrom}
-use Rattle.judging.proofs.Piece.{reads, line-taken, newline-taken}
 use borrow.Author.Needs.{needs}
+use Rattle.streaming.proofs.Work.{then-from}
+use Rattle.pieces.specs.Kept.{most}
+use Rattle.replying.specs.Sheet.{judging}
+use Rattle.replying.proofs.Claims.{reads}
+use Rattle.judging.specs.Inner.{TakesFrom}
+use Rattle.judging.proofs.Piece.{line-taken, line-ends, newline-taken}
 use Rattle.judging.proofs.lines.take_line.Statement.{statement}
 use Rattle.judging.proofs.lines.take_line.Tie as tie
 
-line-end-requires : tie.Need-line-end-requires
-line-end-requires c κs = search needs
+sub-go-on : tie.Need-sub-go-on
+sub-go-on c = search needs
 
-sub-keep : tie.Need-sub-keep
-sub-keep c = search needs
+part-go-on-start : tie.Need-part-go-on-start
+part-go-on-start c = search needs
 
-part-keep-start : tie.Need-part-keep-start
-part-keep-start c = search needs
+part-go-on-end : tie.Need-part-go-on-end
+part-go-on-end c = search needs
 
-part-keep-end : tie.Need-part-keep-end
-part-keep-end c = search needs
-
-keep-requires : tie.Need-keep-requires
-keep-requires c κs = search needs
+go-on-requires : tie.Need-go-on-requires
+go-on-requires c κs = search needs
 
 -- the line as far as the input has it
-line : (c : tie.After-keep)
-    → let a =
-    c .before .before .before .before .before .args in TakesFrom (a .state) (a .input .now) (a .from) (c .before .before .line-end .result) (a .out .now)
-    (a .at) (c .keep .result) (a .out .now) (a .at)
-line c = line-taken _ _ (omega arith) (c .before .before .line-end .ensures) (c .keep .ensures)
+line : (c : tie.After-go-on) (end : ℕ)
+    → let a = c .before .before .before .before .args in
+    end ≡ a .from + c .go-on .result .end → TakesFrom (a .state) (a .input .now) (a .from) end (a .out .now) (a .at) (c .go-on .result .line) (a .out .now) (a .at)
+line c end e =
+    let a = c .before .before .before .before .args in
+    line-taken (a .state) (a .input .now) (a .from) end (c .go-on .result) (c .go-on .ensures) e _ _ (omega arith) (omega arith)
+
+add-end : tie.Need-add-end
+add-end c = let g = c .before .before in omega (arith, line g _ refl .within)
 
 returns : tie.Need-returns
-returns c = (line (c .before), omega arith)
+returns c = (line (c .before .before .before) _ (omega arith), omega arith)
 
 kept-number-requires : tie.Need-kept-number-requires
 kept-number-requires c κs = search needs
@@ -45,11 +48,11 @@ put-requires c κs = search needs
 new-requires : tie.Need-new-requires
 new-requires c κs = search needs
 
-add-t10 : tie.Need-add-t10
-add-t10 c = search needs
+add-t11 : tie.Need-add-t11
+add-t11 c = let g = c .before .before .before .before .before .before .before .before .before in omega (arith, line g _ refl .within)
 
-add-t18 : tie.Need-add-t18
-add-t18 c = search needs
+add-t19 : tie.Need-add-t19
+add-t19 c = search needs
 
 same-length : tie.Need-same-length
 same-length c = search needs
@@ -57,29 +60,32 @@ same-length c = search needs
 returns-2 : tie.Need-returns-2
 returns-2 c =
     let n = c .before .before .before .before .before in
-    let k = n .before .before in
-    let e = k .before .before .line-end .ensures in
-    let l : k .before .before .line-end .result < length (k .before .before .before .before .before .args .input .now) = omega (arith, e .within) in (
-      then-from judging most (omega arith) reads (omega arith) (line k)
+    let g = n .before .before .before .before in
+    let a = g .before .before .before .before .args in
+    let end = a .from + g .go-on .result .end in
+    let l = line g end (omega arith) in
+    let h : end < length (a .input .now) = omega (arith, l .within) in (
+      then-from judging most (omega arith) reads (omega arith) l
           (rw (c .new .ensures)
-          (newline-taken l (e .ends l) (n .kept-number .ensures) (c .before .before .before .put .ensures) (omega arith) (omega arith) (omega arith))),
-      omega (arith, e .on),
+          (newline-taken h (line-ends (a .state) (a .input .now) (a .from) end (g .go-on .result) (g .go-on .ensures) (omega arith) h)
+          (n .kept-number .ensures) (c .before .before .before .put .ensures) (omega arith) (omega arith) (omega arith))),
+      omega arith,
     )
 
 pub take-line-spec : {M : Type 1} → statement M
 take-line-spec =
     tie.close
     (tie.spec
-    line-end-requires
-    sub-keep
-    part-keep-start
-    part-keep-end
-    keep-requires
+    sub-go-on
+    part-go-on-start
+    part-go-on-end
+    go-on-requires
+    add-end
     returns
     kept-number-requires
     put-requires
     new-requires
-    add-t10
-    add-t18
+    add-t11
+    add-t19
     same-length
     returns-2)

@@ -10,7 +10,7 @@ use Rattle.hex.specs.Digits.{digitOf, allDigits, sixteenDigits, numberFrom, fie
 use Rattle.frames.specs.Frame.{fieldsOf}
 use Rattle.streaming.specs.Lines.{linesOf, replies}
 use Rattle.verdicts.specs.Verdict.{against, verdictOn, verdictOf}
-use Rattle.judging.specs.Sheet.{twoDigits, sheetOf}
+use Rattle.replying.specs.Sheet.{twoDigits, sheetOf}
 
 -- 0b1a380101256859, 0b1a38010125685a, xyz
 abbrev pub input : List ℕ

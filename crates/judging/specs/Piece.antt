@@ -1,21 +1,14 @@
--- What the code keeps of a line between two pieces of an input, and what one call does with a piece.
+-- What one call does with a piece of an input, and what the end of the input adds.
 use mathlib.Core.Path.{_≡_}
 use mathlib.Core.List.{List, [], _∷_, _++_}
 use Prim.Native.Nat.{ℕ, _/_, min}
 use lib.ListN.{length, take, drop}
 use Rattle.streaming.specs.Pieces.{after, answers}
-use Rattle.judging.specs.declared.Unfinished.{Unfinished}
+use Rattle.pieces.specs.declared.Unfinished.{Unfinished}
+use Rattle.pieces.specs.Kept.{most, keptOf}
+use Rattle.replying.specs.Sheet.{reply, judging}
 use Rattle.judging.specs.declared.Progress.{Progress}
 use Rattle.judging.specs.declared.Ending.{Ending}
-use Rattle.judging.specs.Sheet.{reply, judging}
-
--- how many bytes of an unfinished line are kept: one more than a frame has, so that a line that is too long is known as such
-abbrev pub most : ℕ
-most = 17
-
--- the bytes that a state keeps of the unfinished line
-unfoldable pub keptOf : Unfinished → List ℕ
-keptOf u = take (u .count) (u .bytes)
 
 -- What one call takes of a piece: all of it, if the output buffer has room for an answer to each byte.
 abbrev pub taken : List ℕ → List ℕ → List ℕ
