@@ -12,8 +12,8 @@ use Rattle.streaming.specs.Lines.{newline, linesOf, replies}
 use Rattle.streaming.specs.Pieces.{answers, ending, inPieces, joined}
 use Rattle.streaming.proofs.Claims.{w-bytes-a-line, reply-of-each-line, cut-at-a-newline, in-any-pieces}
 use Rattle.verdicts.specs.Verdict.{verdictOf}
-use Rattle.pieces.specs.declared.Unfinished.{Unfinished}
-use Rattle.pieces.specs.Kept.{most, keptOf}
+use Rattle.carrying.specs.declared.Unfinished.{Unfinished}
+use Rattle.carrying.specs.Kept.{most, keptOf}
 use Rattle.replying.specs.Sheet.{twoDigits, reply, judging, sheetOf}
 use Rattle.replying.proofs.Claims.{three-bytes, reads}
 use Rattle.judging.specs.declared.Progress.{Progress}

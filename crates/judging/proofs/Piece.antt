@@ -14,10 +14,10 @@ use Rattle.streaming.specs.Work.{WorkedFrom}
 use Rattle.streaming.proofs.Newlines.{Plain}
 use Rattle.streaming.proofs.Work.{unended, ended, whole-line, whole-input, few, same-size}
 use Rattle.verdicts.specs.Verdict.{verdictOf}
-use Rattle.pieces.specs.declared.Unfinished.{Unfinished}
-use Rattle.pieces.specs.declared.Part.{Part}
-use Rattle.pieces.specs.Kept.{most, keptOf, GoneOn}
-use Rattle.pieces.proofs.Claims.{end-within, end-at-newline, no-newline-before}
+use Rattle.carrying.specs.declared.Unfinished.{Unfinished}
+use Rattle.carrying.specs.declared.Part.{Part}
+use Rattle.carrying.specs.Kept.{most, keptOf, GoneOn}
+use Rattle.carrying.proofs.Claims.{end-within, end-at-newline, no-newline-before}
 use Rattle.replying.specs.declared.Line.the-variants.{Frame}
 use Rattle.replying.specs.Sheet.{twoDigits, judging}
 use Rattle.replying.specs.First.{firstLine}

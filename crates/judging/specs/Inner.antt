@@ -4,8 +4,8 @@ use mathlib.Core.List.{List, _++_}
 use Prim.Native.Nat.{ℕ, _+_}
 use lib.ListN.{take, drop}
 use Rattle.streaming.specs.Work.{WorkedFrom}
-use Rattle.pieces.specs.declared.Unfinished.{Unfinished}
-use Rattle.pieces.specs.Kept.{most, keptOf}
+use Rattle.carrying.specs.declared.Unfinished.{Unfinished}
+use Rattle.carrying.specs.Kept.{most, keptOf}
 use Rattle.replying.specs.Sheet.{twoDigits, judging}
 
 -- the buffer with an answer number put at a place

@@ -4,8 +4,8 @@ use mathlib.Core.List.{List, [], _∷_, _++_}
 use Prim.Native.Nat.{ℕ, _/_, min}
 use lib.ListN.{length, take, drop}
 use Rattle.streaming.specs.Pieces.{after, answers}
-use Rattle.pieces.specs.declared.Unfinished.{Unfinished}
-use Rattle.pieces.specs.Kept.{most, keptOf}
+use Rattle.carrying.specs.declared.Unfinished.{Unfinished}
+use Rattle.carrying.specs.Kept.{most, keptOf}
 use Rattle.replying.specs.Sheet.{reply, judging}
 use Rattle.judging.specs.declared.Progress.{Progress}
 use Rattle.judging.specs.declared.Ending.{Ending}

@@ -2,14 +2,14 @@
 // `proofs/Claims.antt` is the page to read first.
 mod lines;
 
+use carrying::Unfinished;
 use lines::put;
 use lines::take_frames;
 use lines::take_line;
-use pieces::Unfinished;
 ghost use mathlib.Core.Path.{_≡_};
 ghost use Prim.Native.Nat.{_*_, _≤_, min};
 ghost use lib.ListN.{length};
-ghost use Rattle.pieces.specs.Kept.{keptOf};
+ghost use Rattle.carrying.specs.Kept.{keptOf};
 ghost use Rattle.judging.specs.Piece.{taken, Judged, endingOf};
 
 // What a call has done with a piece: the state for the next, how many bytes of the piece it took, and how many it wrote.

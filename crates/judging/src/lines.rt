@@ -1,5 +1,5 @@
 // The lines of an input one after the other: frames by a short way, and every other line by its newline.
-use pieces::Unfinished;
+use carrying::Unfinished;
 use replying::Line;
 ghost use Prim.Native.Nat.{_+_, _-_, _*_, _≤_, _<_};
 ghost use lib.ListN.{length};
@@ -74,7 +74,7 @@ pub(crate) fn take_line(
     ensures { λ r. ⌜ TakesFrom state (now (input .entry)) from (r .next) (now (out .entry)) at (r .state) (now (out .exit)) (r .written) ⌝ }
     ensures { λ r. ⌜ from < r .next ⌝ }
 {
-    let part = pieces::go_on(state, &input[from..]);
+    let part = carrying::go_on(state, &input[from..]);
     let line = part.line;
     let end = from + part.end;
     if end == input.len() {

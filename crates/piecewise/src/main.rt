@@ -1,6 +1,6 @@
 // Runs the rules' example of a sheet through `judging` in pieces of each length, with small and large output buffers. Each run writes
 // the example's answers; an empty input writes nothing.
-use pieces::Unfinished;
+use carrying::Unfinished;
 ghost use Prim.Native.Nat.{_≤_};
 
 fn least(a: usize, b: usize) -> usize

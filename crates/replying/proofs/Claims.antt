@@ -16,7 +16,7 @@ use Rattle.streaming.specs.Lines.{newline}
 use Rattle.streaming.proofs.Pieces.{Reads}
 use Rattle.verdicts.specs.Verdict.{verdictOf}
 use Rattle.verdicts.proofs.Verdicts.{other-length}
-use Rattle.pieces.specs.Kept.{most}
+use Rattle.carrying.specs.Kept.{most}
 use Rattle.replying.specs.declared.Line.the-variants.{Frame, Other}
 use Rattle.replying.specs.Sheet.{twoDigits, judging}
 use Rattle.replying.specs.First.{firstLine}

@@ -1,10 +1,10 @@
 // The answer number of one line of a sheet: of a frame where it stands, and of a line that was kept from pieces.
 // `proofs/Claims.antt` is the page to read first.
+use carrying::Unfinished;
 use frames::Reading;
-use pieces::Unfinished;
 ghost use mathlib.Core.Path.{_≡_};
 ghost use Rattle.verdicts.specs.Verdict.{verdictOf};
-ghost use Rattle.pieces.specs.Kept.{keptOf};
+ghost use Rattle.carrying.specs.Kept.{keptOf};
 ghost use Rattle.replying.specs.First.{firstLine};
 
 // What some bytes begin with: a frame and its newline, with the number of its verdict, or something else.

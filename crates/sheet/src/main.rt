@@ -1,7 +1,7 @@
 // The sheet program: frames from standard input, one a line, and their answer numbers to standard output. All that matters is in
 // `judging`; here is only reading and writing.
+use carrying::Unfinished;
 use judging::Progress;
-use pieces::Unfinished;
 ghost use Prim.Native.Nat.{_*_, _≤_};
 ghost use lib.ListN.{length};
 ghost use Rattle.judging.specs.Piece.{Judged};

@@ -58,3 +58,23 @@ pub fn write(program: &[u8], bytes: &[u8]) -> bool
     }
     fail(program, b"write", b"standard output")
 }
+
+// Writes for as long as all is good: every read and every write before succeeded. Nothing follows a failure, so that what is written is a beginning of the
+// whole.
+pub fn put(program: &[u8], good: &mut bool, text: &[u8])
+    ensures after { λ _. ⌜ (now (good .entry) ≡ false → now (good .exit) ≡ false) ⌝ }
+    ensures nothing { λ _. ⌜ (length (now (text .entry)) ≡ 0 → now (good .exit) ≡ now (good .entry)) ⌝ }
+{
+    if *good {
+        *good = write(program, text);
+    }
+}
+
+// A number in decimal digits likewise.
+pub fn put_number(program: &[u8], good: &mut bool, n: u64)
+    ensures { λ _. ⌜ (now (good .entry) ≡ false → now (good .exit) ≡ false) ⌝ }
+{
+    let mut text = [0u8; 20];
+    let k = io::decimal(n, &mut text);
+    put(program, good, &text[..k]);
+}

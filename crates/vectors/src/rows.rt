@@ -1,6 +1,5 @@
 // Reads the lines of a table byte by byte. A line that begins with '#' is a comment. Any other is a row: whole numbers, each followed by a tab, and
 // then the name of the row's source. Only the second number, the year, can be negative.
-use crate::output;
 use calendars::Date;
 
 // What the next byte of a line belongs to.
@@ -95,7 +94,7 @@ fn digit(line: Line, byte: u8) -> Line {
     if at < 5 {
         let n = numbers[at];
         if n < 1000000 {
-            numbers[at] = n * 10 + output::wide(byte) % 16;
+            numbers[at] = n * 10 + (byte as u64) % 16;
             return Line {
                 numbers,
                 count: at,

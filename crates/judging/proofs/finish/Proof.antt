@@ -6,8 +6,8 @@ use native.Mathlib.Omega.{arith}
 use lib.ListN.{length}
 use borrow.Author.Needs.{needs}
 use Rattle.hex.specs.Digits.{writtenIn}
-use Rattle.pieces.specs.Kept.{keptOf}
-use Rattle.pieces.proofs.Kept.{none-kept, some-kept}
+use Rattle.carrying.specs.Kept.{keptOf}
+use Rattle.carrying.proofs.Kept.{none-kept, some-kept}
 use Rattle.replying.specs.Sheet.{twoDigits, reply}
 use Rattle.judging.specs.declared.Ending.{Ending}
 use Rattle.judging.specs.Piece.{endingOf}

@@ -5,8 +5,8 @@ use native.Mathlib.Omega.{arith}
 use lib.ListN.{length}
 use borrow.Author.Needs.{needs}
 use Rattle.streaming.proofs.Work.{none-from, then-from}
-use Rattle.pieces.specs.Kept.{most, keptOf}
-use Rattle.pieces.proofs.Kept.{kept-few}
+use Rattle.carrying.specs.Kept.{most, keptOf}
+use Rattle.carrying.proofs.Kept.{kept-few}
 use Rattle.replying.specs.Sheet.{judging}
 use Rattle.replying.proofs.Claims.{reads}
 use Rattle.judging.specs.Inner.{TakesFrom}

@@ -7,7 +7,7 @@ use lib.ListN.{length}
 use lib.Seq.{length-take-le}
 use borrow.Author.Needs.{needs}
 use Rattle.verdicts.specs.Verdict.{verdictOf}
-use Rattle.pieces.proofs.Kept.{kept-bytes}
+use Rattle.carrying.proofs.Kept.{kept-bytes}
 use Rattle.replying.proofs.kept_number.Statement.{statement}
 use Rattle.replying.proofs.kept_number.Tie as tie
 

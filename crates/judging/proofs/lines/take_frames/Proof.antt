@@ -7,8 +7,8 @@ use lib.ListN.{length, drop, length-drop}
 use borrow.Author.Needs.{needs}
 use Rattle.streaming.specs.Work.{WorkedFrom}
 use Rattle.streaming.proofs.Work.{none-from, then-from}
-use Rattle.pieces.specs.Kept.{most}
-use Rattle.pieces.proofs.Kept.{kept-few, none-kept}
+use Rattle.carrying.specs.Kept.{most}
+use Rattle.carrying.proofs.Kept.{kept-few, none-kept}
 use Rattle.replying.specs.Sheet.{judging}
 use Rattle.replying.proofs.Claims.{reads, Begins}
 use Rattle.judging.proofs.Piece.{same-buffer, room, frame-at, frame-taken}

@@ -5,7 +5,7 @@ use native.Mathlib.Omega.{arith}
 use lib.ListN.{length}
 use borrow.Author.Needs.{needs}
 use Rattle.streaming.proofs.Work.{then-from}
-use Rattle.pieces.specs.Kept.{most}
+use Rattle.carrying.specs.Kept.{most}
 use Rattle.replying.specs.Sheet.{judging}
 use Rattle.replying.proofs.Claims.{reads}
 use Rattle.judging.specs.Inner.{TakesFrom}

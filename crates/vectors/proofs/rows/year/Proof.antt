@@ -2,7 +2,7 @@
 use borrow.Author.Needs.{needs}
 use native.Mathlib.Omega.{arith}
 use lib.ListN.{getD}
-use Rattle.vectors.proofs.Signed.{negated}
+use Rattle.basics.proofs.Signed.{negated}
 use Rattle.vectors.proofs.rows.year.Statement.{statement}
 use Rattle.vectors.proofs.rows.year.Tie as tie
 

@@ -9,7 +9,7 @@ use lib.ListN.{length, drop, getD}
 use lib.Seq.{drop-cons}
 use borrow.Author.Tests.{eqb-true, eqb-false, eq-eqb, ne-eqb}
 use Rattle.streaming.specs.Lines.{newline}
-use Rattle.pieces.specs.Kept.{lineEnd}
+use Rattle.carrying.specs.Kept.{lineEnd}
 
 pub at-newline : (s : List ℕ) (i : ℕ) → i < length s → getD s i 0 ≡ newline → lineEnd (drop i s) ≡ 0
 unfolding lineEnd

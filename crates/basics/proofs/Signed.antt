@@ -1,4 +1,4 @@
--- Signed years as the machine computes them: the year that is n years before 0, and the distance of a year from 0.
+-- Signed numbers as the machine computes them: a natural number below 0, and the distance of a number from 0.
 use mathlib.Core.Path.{_≡_, refl}
 use mathlib.Core.Bool.{true, false}
 use Prim.Native.Nat.{ℕ, zero, suc, _+_, _<_, _^_}
@@ -22,7 +22,7 @@ after : (k : ℕ) → negsuc k +ℤ pos 1 ≡ negℤ (pos k)
 after zero = refl
 after (suc k) = +ℤ-one (negsuc (suc k))
 
--- `read` is what the machine reads back from a number's bits. Of a negative year: one more than it fits; 0 less that fits, is not negative and
+-- `read` is what the machine reads back from a number's bits. Of a negative number: one more than it fits; 0 less that fits, is not negative and
 -- leaves room for 1.
 module _ (read : ℤ → ℤ) (same : (z : ℤ) → SFits w64 z → read z ≡ z) where
   abbrev pub Measured : ℤ → Type 0
@@ -39,7 +39,7 @@ module _ (read : ℤ → ℤ) (same : (z : ℤ) → SFits w64 z → read z ≡ z
       rw (same (negsuc k) f, after k, same (negℤ (pos k)) a, +ℤ-idl (negℤ (negℤ (pos k))), negℤ-negℤ (pos k), same (pos k) b)
       (a, b, (tt, record { fits = omega (arith, b .sfits) }), record { fits = omega (arith, b .sfits) })
 
-  -- a year that is not negative can be cast to an unsigned number
+  -- one that is not negative can be cast to an unsigned number
   pub unsigned : (z : ℤ) → SFits w64 z → ltZ (read z) (pos 0) ≡ false → T (nonNeg (read z)) × Fits w64 (natAbs (read z))
   unsigned z f h = rw (same z f) (go z f (rw (same z f) at h))
     where

@@ -6,8 +6,8 @@ use Prim.Native.Nat.{ℕ, suc}
 use lib.Dec.{eqb}
 use lib.ListN.{take}
 use Rattle.streaming.specs.Lines.{newline}
-use Rattle.pieces.specs.declared.Unfinished.{Unfinished}
-use Rattle.pieces.specs.declared.Part.{Part}
+use Rattle.carrying.specs.declared.Unfinished.{Unfinished}
+use Rattle.carrying.specs.declared.Part.{Part}
 
 -- how many bytes of an unfinished line are kept: one more than a frame has, so that a line that is too long is known as such
 abbrev pub most : ℕ

@@ -3,7 +3,7 @@ use crate::output::put;
 use crate::show;
 
 pub(crate) fn show_all(good: &mut bool) {
-    put(good, b"\nWorked examples\n");
+    put(good, b"Worked examples\n");
     show_dates(good);
     show_easters(good);
 }

@@ -1,13 +1,13 @@
--- `pieces::line_end` meets its contract. The invariant: the line ends where its rest does.
+-- `carrying::line_end` meets its contract. The invariant: the line ends where its rest does.
 use mathlib.Core.Path.{_≡_, ap}
 use Prim.Native.Nat.{_+_, _-_, _≤_}
 use native.Mathlib.Numerals.{add-one}
 use native.Mathlib.Omega.{arith}
 use lib.ListN.{length, drop, drop-of-length-le}
-use Rattle.pieces.specs.Kept.{lineEnd}
-use Rattle.pieces.proofs.Ends.{at-newline, past-other, at-end}
-use Rattle.pieces.proofs.line_end.Statement.{statement}
-use Rattle.pieces.proofs.line_end.Tie as tie
+use Rattle.carrying.specs.Kept.{lineEnd}
+use Rattle.carrying.proofs.Ends.{at-newline, past-other, at-end}
+use Rattle.carrying.proofs.line_end.Statement.{statement}
+use Rattle.carrying.proofs.line_end.Tie as tie
 
 abbrev Inv-loop : tie.InvT-loop
 Inv-loop bytes i₀ i = (i ≤ length bytes) × (lineEnd bytes ≡ i + lineEnd (drop i bytes))

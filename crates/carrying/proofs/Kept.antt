@@ -8,8 +8,8 @@ use lib.Dec.{ltb}
 use lib.ListN.{length, take, length-take}
 use lib.Seq.{take-all}
 use borrow.Author.Tests.{ltb-true, ltb-false}
-use Rattle.pieces.specs.declared.Unfinished.{Unfinished}
-use Rattle.pieces.specs.Kept.{most, keptOf}
+use Rattle.carrying.specs.declared.Unfinished.{Unfinished}
+use Rattle.carrying.specs.Kept.{most, keptOf}
 
 module _ (u : Unfinished) where
   pub kept-few : length (u .bytes) ≡ 17 → length (keptOf u) ≤ most

@@ -3,7 +3,7 @@
 ghost use mathlib.Core.Path.{_≡_};
 ghost use mathlib.Core.List.{[], _++_};
 ghost use lib.ListN.{take};
-ghost use Rattle.pieces.specs.Kept.{most, keptOf, lineEnd, GoneOn};
+ghost use Rattle.carrying.specs.Kept.{most, keptOf, lineEnd, GoneOn};
 
 // What is kept of a line that the pieces so far have not finished: its first bytes, one more than a frame has.
 pub struct Unfinished {

@@ -1,11 +1,11 @@
--- `pieces::go_on` meets its contract.
+-- `carrying::go_on` meets its contract.
 use mathlib.Core.Path.{sym}
 use native.Mathlib.Omega.{arith}
 use lib.Seq.{length-take-le}
 use borrow.Author.Needs.{needs}
-use Rattle.pieces.proofs.Ends.{within}
-use Rattle.pieces.proofs.go_on.Statement.{statement}
-use Rattle.pieces.proofs.go_on.Tie as tie
+use Rattle.carrying.proofs.Ends.{within}
+use Rattle.carrying.proofs.go_on.Statement.{statement}
+use Rattle.carrying.proofs.go_on.Tie as tie
 
 line-end-requires : tie.Need-line-end-requires
 line-end-requires c κs = search needs

@@ -1,4 +1,4 @@
--- `pieces::keep` meets its contract. The invariant: what is kept, and then the bytes left, begin with the same 17 bytes as at the start.
+-- `carrying::keep` meets its contract. The invariant: what is kept, and then the bytes left, begin with the same 17 bytes as at the start.
 use mathlib.Core.Path.{refl}
 use mathlib.Core.List.{_++_}
 use Prim.Native.Nat.{_-_}
@@ -6,9 +6,9 @@ use native.Mathlib.Omega.{arith}
 use lib.ListN.{length, take}
 use borrow.Author.Needs.{needs}
 use Rattle.streaming.proofs.Kept.{Keeping, one-more, full, passed}
-use Rattle.pieces.specs.Kept.{most, keptOf}
-use Rattle.pieces.proofs.keep.Statement.{statement}
-use Rattle.pieces.proofs.keep.Tie as tie
+use Rattle.carrying.specs.Kept.{most, keptOf}
+use Rattle.carrying.proofs.keep.Statement.{statement}
+use Rattle.carrying.proofs.keep.Tie as tie
 
 abbrev Inv-loop : tie.InvT-loop
 Inv-loop more bytes₀ count₀ i₀ bytes count i = Keeping most (take count₀ bytes₀ ++ more) more bytes count i

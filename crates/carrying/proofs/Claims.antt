@@ -8,10 +8,10 @@ use lib.Seq.{getD-take}
 use Rattle.streaming.specs.Lines.{newline}
 use Rattle.streaming.specs.Pieces.{after}
 use Rattle.streaming.proofs.Newlines.{Plain, plain-after}
-use Rattle.pieces.specs.declared.Unfinished.{Unfinished}
-use Rattle.pieces.specs.declared.Part.{Part}
-use Rattle.pieces.specs.Kept.{most, keptOf, lineEnd, GoneOn}
-use Rattle.pieces.proofs.Ends as ends
+use Rattle.carrying.specs.declared.Unfinished.{Unfinished}
+use Rattle.carrying.specs.declared.Part.{Part}
+use Rattle.carrying.specs.Kept.{most, keptOf, lineEnd, GoneOn}
+use Rattle.carrying.proofs.Ends as ends
 
 -- ---- where the first line of some bytes ends: at a newline or at the end of the bytes, and no newline stands before
 

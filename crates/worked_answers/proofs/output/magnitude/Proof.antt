@@ -1,12 +1,12 @@
--- `vectors::output::magnitude` is safe: a negative year's distance from -1 is no negative number, and one more fits.
+-- `worked_answers::output::magnitude` is safe: a negative year's distance from -1 is no negative number, and one more fits.
 use borrow.Author.Needs.{needs}
 use lib.IntN.{ℤ}
 use mir.Syntax.{w64}
 use mir.Val.{toZ, ofZ}
 use mir.ValLaws.{toZ-ofZ}
-use Rattle.vectors.proofs.Signed.{Measured, measured, unsigned}
-use Rattle.vectors.proofs.output.magnitude.Statement.{statement}
-use Rattle.vectors.proofs.output.magnitude.Tie as tie
+use Rattle.basics.proofs.Signed.{Measured, measured, unsigned}
+use Rattle.worked_answers.proofs.output.magnitude.Statement.{statement}
+use Rattle.worked_answers.proofs.output.magnitude.Tie as tie
 
 abbrev read : ℤ → ℤ
 read z = toZ w64 (ofZ w64 z)
