@@ -1,6 +1,6 @@
 -- What is proved of sheets: the page to read first. It rests on specs/Verdict.antt of crate verdicts (the verdict on a line), specs/Lines.antt of crate
 -- streaming (lines, and what is written for them) and specs/Sheet.antt of crate replying (the output for an input). specs/Piece.antt, with specs/Kept.antt
--- of crate pieces, says what a call of the code does with a piece; the last claim takes any run of such calls to the output of the whole input.
+-- of crate carrying, says what a call of the code does with a piece; the last claim takes any run of such calls to the output of the whole input.
 use mathlib.Core.Path.{_≡_, refl, sym, ap, _∙_}
 use mathlib.Core.List.{List, [], _∷_, _++_}
 use Prim.Native.Nat.{ℕ, _*_, _<_}
