@@ -37,8 +37,12 @@ def julian(y):
     return julian_months(y % 4 == 0)
 
 
+def gregorian_leap(y):
+    return (y % 4 == 0 and y % 100 != 0) or y % 400 == 0
+
+
 def gregorian(y):
-    return julian_months((y % 4 == 0 and y % 100 != 0) or y % 400 == 0)
+    return julian_months(gregorian_leap(y))
 
 
 def from_month(first):
@@ -53,11 +57,11 @@ def islamic(y):
 
 
 def bahai(y):
-    return [19] * 18 + [5 if y % 4 == 0 else 4] + [19]
+    return [19] * 18 + [5 if gregorian_leap(y + 1844) else 4] + [19]
 
 
 def saka(y):
-    return [31 if y % 4 == 2 else 30] + [31] * 5 + [30] * 6
+    return [31 if gregorian_leap(y + 78) else 30] + [31] * 5 + [30] * 6
 
 
 def hebrew_leap(y):
@@ -179,6 +183,9 @@ def sheet():
     lines += [dated(c, y, m, d) for c in CALENDARS for y in (5784, 5785, 5786, 5787) for m in (1, 2, 6, 9, 12, 13, 19) for d in (0, 4, 5, 6, 19, 28, 29, 30, 31, 32, 255)]
     lines += [dated(11, 9999, 12, 31), dated(11, 10000, 1, 1), dated(10, -4712, 1, 1), dated(11, -4712, 1, 1), dated(10, 9999, 12, 31), dated(13, 15000, 1, 1)]
     lines += [dated(11, 1582, 10, 15), dated(10, 1582, 10, 4), dated(11, 1582, 10, 15, 1), dated(11, 2000, 2, 29), dated(11, 1900, 2, 29), dated(18, 5784, 1, 1), dated(18, 5785, 1, 1)]
+    # Bahai and Saka: the extra day in 1900, which has none, and in 2000; the days after; and the day that there would be with every fourth year leap
+    lines += [dated(14, 56, 19, 5), dated(14, 56, 20, 1), dated(14, 156, 19, 5), dated(14, 156, 20, 1), dated(14, 157, 1, 1), dated(14, 157, 1, 1, 1)]
+    lines += [dated(15, 1822, 1, 31), dated(15, 1822, 2, 1), dated(15, 1922, 1, 31), dated(15, 1922, 2, 1), dated(15, 1879, 1, 1), dated(15, 1879, 1, 1, 15)]
     # the whole of a Gregorian and of a Hebrew year
     lines += year_sheet(11, 2024) + year_sheet(18, 5784)
     # a line of more than 64 KiB of digits, lines of no bytes, and the sheet goes on

@@ -63,13 +63,13 @@ Lengths islamic(int64_t y) {
 
 Lengths bahai(int64_t y) {
     Lengths l(20, 19);
-    l[18] = y % 4 == 0 ? 5 : 4;
+    l[18] = gregorian_leap(y + 1844) ? 5 : 4;
     return l;
 }
 
 Lengths saka(int64_t y) {
     Lengths l = {30, 31, 31, 31, 31, 31, 30, 30, 30, 30, 30, 30};
-    if (y % 4 == 2) l[0] = 31;
+    if (gregorian_leap(y + 78)) l[0] = 31;
     return l;
 }
 

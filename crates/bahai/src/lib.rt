@@ -1,4 +1,6 @@
-// The Bahai calendar, 14: one leap year in four, eighteen positions of 19 days, a short one, and one of 19 again. Positions are counted from 0.
+// The Bahai calendar, 14: eighteen positions of 19 days, one of 4 or 5, and one of 19 again. Counted from the last, where the extra day comes at the end, its
+// years are nineteen positions of 19 days and the short one, and of the Gregorian kind: the extra day of year Y falls in the Gregorian year Y + 1844, and the
+// first year, which is year 1, is the year 6644 from -4800. Positions are counted from 0.
 use parts::Month;
 use parts::Place;
 ghost use mathlib.Core.Path.{_≡_};
@@ -11,8 +13,10 @@ pub fn length_at(i: u16, p: u64) -> u64
     if 19 < p {
         return 0;
     }
-    let leap = ((i as u64) % 4 + 1) / 4;
-    parts::pick(p == 18, 4 + leap, 19)
+    if p != 18 {
+        return 19;
+    }
+    parts::pick(gregorian_years::is_long(6644 + (i as u32)), 5, 4)
 }
 
 // A position of the year that is i years after the first.
@@ -22,26 +26,25 @@ pub fn month_at(i: u16, p: u64) -> Month
     if 19 < p {
         return Month { start: 0, days: 0 };
     }
-    let y = i as u64;
-    let leap = (y % 4 + 1) / 4;
-    let before = parts::pick(p == 19, 346 + leap, 19 * p);
+    let wrap = parts::pick(p + 1 < 20, 0, 1);
+    let z = 6644 + (i as u32) + (wrap as u32);
     Month {
-        start: 2394647 + 1461 * y / 4 + before,
+        start: gregorian_years::year_start(z) + 19 * (p + 1 - 20 * wrap) - 32043,
         days: length_at(i, p),
     }
 }
 
-// The date of a day: the last position as if the one before it had 19 days.
 pub fn date_on(day: u32) -> Place
     ensures { λ r. ⌜ PlaceOf bahai day (r .year) (r .month) (r .day) ⌝ }
 {
     if day < 2394647 {
         return parts::nowhere();
     }
-    let t = 4 * ((day - 2394647) as u64) + 3;
-    let i = t / 1461;
-    let rest = t % 1461 / 4;
-    let leap = (i % 4 + 1) / 4;
-    let x = parts::pick(346 + leap <= rest, rest + 15 - leap, rest);
-    parts::place_in(1, i as u32, x / 19 + 1, x % 19 + 1)
+    let y = gregorian_years::year_of(day, 32043);
+    let p = y.rest / 19;
+    let d = y.rest % 19 + 1;
+    if p == 0 {
+        return parts::place_in(-6644, y.year, 20, d);
+    }
+    parts::place_in(-6644, y.year + 1, p, d)
 }

@@ -4,6 +4,8 @@ use mathlib.Core.Logic.{_↔_}
 use mathlib.Core.Bool.{Bool, true, false, cond, _&&_, _||_, true≢false}
 use Prim.Native.Nat.{ℕ, zero, suc, _<_}
 use native.Mathlib.Omega.{arith}
+use lib.Dec.{eqb}
+use borrow.Author.Tests.{eqb-true, eqb-false, eq-eqb, ne-eqb}
 
 -- what holds of either choice, each where it is taken, holds of the choice
 pub cond-elim : {A : Type 0} (P : A → Type 0) (t : Bool) (a b : A) → (t ≡ true → P a) → (t ≡ false → P b) → P (cond t a b)
@@ -40,6 +42,10 @@ fails-where t i = (λ e p. true≢false (sym (i .1 p) ∙ e), λ h. fails t (λ 
 pub same-test : (t u : Bool) → (t ≡ true → u ≡ true) → (t ≡ false → u ≡ false) → t ≡ u
 same-test true u f g = sym (f refl)
 same-test false u f g = sym (g refl)
+
+-- equations of numbers that hold together are one test
+pub same-eqb : (a b x y : ℕ) → (a ≡ b → x ≡ y) → (x ≡ y → a ≡ b) → eqb a b ≡ eqb x y
+same-eqb a b x y f g = same-test (eqb a b) (eqb x y) (λ h. eq-eqb x y (f (eqb-true a b h))) (λ h. ne-eqb x y (λ e. eqb-false a b h (g e)))
 
 -- a fact of each number below n, from a proof for each: `p and q and .. and tt`
 infixr 10 _and_

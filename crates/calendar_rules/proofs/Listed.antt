@@ -13,7 +13,7 @@ use Rattle.counting.specs.Answers.{Calendar, years, Proper}
 use Rattle.counting.proofs.Starts.{proper}
 use Rattle.basics.specs.Every.{All}
 use Rattle.basics.proofs.Cases.{both, _and_}
-use Rattle.calendar_rules.specs.Calendars.{table, lookup, calendar, Listed, none, remainder, gregorianLeap, islamicLeap}
+use Rattle.calendar_rules.specs.Calendars.{table, lookup, calendar, Listed, none, remainder, gregorianLeap, islamicLeap, bahaiLeap, sakaLeap}
 use Rattle.calendar_rules.specs.Calendars.{thirtiesAnd5, fiveAt9, thirtiesAnd5or6, fromSeptember, fromOctober, fromJanuary, inTurn, nineteens, sakaMonths}
 use Rattle.calendar_rules.proofs.Bounds.{Bounded, within, bothWithin, year-days, row-bounded, hebrew-bounded}
 
@@ -78,8 +78,8 @@ rows-sound =
     and sound (row-bounded _ _ fromJanuary gregorianLeap refl) refl
     and sound (row-bounded _ _ inTurn islamicLeap refl) refl
     and sound (row-bounded _ _ inTurn islamicLeap refl) refl
-    and sound (row-bounded _ _ nineteens (remainder 0 4) refl) refl
-    and sound (row-bounded _ _ sakaMonths (remainder 2 4) refl) refl
+    and sound (row-bounded _ _ nineteens bahaiLeap refl) refl
+    and sound (row-bounded _ _ sakaMonths sakaLeap refl) refl
     and sound hebrew-bounded refl
     and tt
 

@@ -41,14 +41,13 @@ rows =
     -- from Ruby 3.1's Julian dates, with years 312 more, from September and from October
     ∷ date 8 (pos 35) 6 29 (is 1620308)
     ∷ date 9 (pos 35) 5 29 (is 1620308)
-    -- Joda-Time 2.10.14, OpenJDK 17, ICU 72.1, Emacs 28.2 twice
+    -- Joda-Time 2.10.14, OpenJDK 17, ICU 72.1, Emacs 28.2 twice; ICU 72; convertdate 2.4.0
     ∷ date 10 (negsuc 4711) 2 29 (is 59)
     ∷ date 11 (negsuc 4711) 2 29 (is 97)
     ∷ date 12 (pos 5) 12 30 (is 1950210)
     ∷ date 13 (pos 146) 12 30 (is 2000177)
-    ∷ date 14 (pos 24) 19 5 (is 2403393)
-    -- from convertdate 2.4.0's Julian dates, and its own
-    ∷ date 15 (pos 22) 1 31 (is 1757695)
+    ∷ date 14 (pos 156) 19 5 (is 2451605)
+    ∷ date 15 (pos 2722) 1 31 (is 2743849)
     ∷ date 18 (pos 2) 3 30 (is 348442)
     ∷ []
 

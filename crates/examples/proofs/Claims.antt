@@ -1,5 +1,5 @@
--- Each starred example of docs/RULES.md is answered as it says: one table, one statement. Both sides are computed, the days of the years by counting them
--- one by one, but for the Hebrew years, whose first days are those that the rules give.
+-- Each starred example of docs/RULES.md is answered as it says: one table, one statement; and so is each worked number of the change requests. Both sides are
+-- computed, the days of the years by counting them one by one, but for the Hebrew years, whose first days are those that the rules give.
 use mathlib.Core.Path.{_≡_, refl}
 use Prim.Native.Nat.{ℕ, _+_, _-_}
 use native.Mathlib.Omega.{arith}
@@ -18,6 +18,7 @@ use Rattle.calendar_rules.specs.Calendars.{hebrew, lookup, calendar}
 use Rattle.calendar_rules.specs.Answers.{dayAnswer}
 use Rattle.calendar_rules.proofs.HebrewYears.{hebrew-row}
 use Rattle.examples.specs.Starred.{starred, Answered}
+use Rattle.examples.specs.Requests.{worked}
 
 -- the days before a Hebrew year, from its first day by the rules
 before-year : (i n : ℕ) → newYear (i + 1) ≡ n → start (years hebrew) i ≡ n - 347998
@@ -32,3 +33,7 @@ pub starred-answered : All Answered starred
 unfolding dayAnswer calendar lookup dayFor years dayOf start total fitOf within every passes offsetOf peak sumTo first answerOf
 starred-answered =
     (refl, (refl, (refl, (refl, (refl, (refl, (refl, (refl, (hebrew-years .0, (hebrew-years .1, (refl, (refl, (refl, (refl, (refl, (refl, tt))))))))))))))))
+
+pub worked-answered : All Answered worked
+unfolding dayAnswer calendar lookup dayFor years dayOf start total
+worked-answered = (refl, (refl, tt))

@@ -1,5 +1,5 @@
 // The calendars that are counted from March, where the leap day is the last: 8 to 10 with every fourth year leap, 11 by the Gregorian rule. Years are counted
-// from March of -4800, which is divisible by 400; months lie on the line 153, 5, 2. Positions are counted from 0.
+// from March of -4800; months lie on the line 153, 5, 2. Positions are counted from 0.
 use parts::Month;
 use parts::Place;
 ghost use mathlib.Core.Bool.{cond, _||_};
@@ -8,7 +8,8 @@ ghost use Prim.Native.Nat.{_+_, _-_, _*_, _/_, _%_, _^_, _≤_, _<_};
 ghost use lib.Dec.{eqb, ltb};
 ghost use lib.ListN.{getD};
 ghost use Rattle.calendar_rules.specs.Calendars.{macedonian, syrian, julian, gregorian};
-ghost use Rattle.months.specs.March.{gregorianLong, julianStart, julianYears, julianFirst, Evened, monthLength};
+ghost use Rattle.months.specs.Leap.{gregorianLong};
+ghost use Rattle.months.specs.March.{julianStart, julianYears, julianFirst, MarchDate, JulianDate, monthLength};
 ghost use Rattle.months.specs.Parts.{lengthAt, MonthIs, MonthOf, PlaceOf, PackedAt};
 
 // Whether position p of a year that begins turn months after March is in the next year from March: a number.
@@ -70,20 +71,26 @@ fn kind_month(z0: u32, turn: u64, i: u16, p: u64) -> Month
     }
 }
 
-// The date of a day, given the days from March of -4800 as if every fourth year were leap.
-fn evened_date(before: i32, turn: u64, q: u64) -> Place
-    requires { ⌜ (turn < 12) × (q ≤ 8589934592) ⌝ }
-    ensures { λ r. ⌜ Evened before turn q (r .year) (r .month) (r .day) ⌝ }
+// The date of a day, given its year from March and the days of that year before it.
+fn date_in(before: i32, turn: u64, z: u32, rest: u64) -> Place
+    requires { ⌜ (turn < 12) × (z < 4294967295) × (rest ≤ 365) ⌝ }
+    ensures { λ r. ⌜ MarchDate before turn z rest (r .year) (r .month) (r .day) ⌝ }
 {
-    let t = 4 * q + 3;
-    let z = (t / 1461) as u32;
-    let rest = t % 1461 / 4;
     let p = (5 * rest + 2) / 153;
     let d = rest - (153 * p + 2) / 5 + 1;
     if turn <= p {
         return parts::place_in(before, z + 1, p + 1 - turn, d);
     }
     parts::place_in(before, z, p + 13 - turn, d)
+}
+
+// The same given the days from March of -4800, where every fourth year is leap.
+fn kind_date(before: i32, turn: u64, q: u64) -> Place
+    requires { ⌜ (turn < 12) × (q ≤ 8589934592) ⌝ }
+    ensures { λ r. ⌜ JulianDate before turn q (r .year) (r .month) (r .day) ⌝ }
+{
+    let t = 4 * q + 3;
+    date_in(before, turn, (t / 1461) as u32, t % 1461 / 4)
 }
 
 pub fn macedonian_length(i: u16, p: u64) -> u64
@@ -104,7 +111,7 @@ pub fn macedonian_date(day: u32) -> Place
     if day < 1607709 {
         return parts::nowhere();
     }
-    evened_date(-4489, 6, (day as u64) + 32082)
+    kind_date(-4489, 6, (day as u64) + 32082)
 }
 
 pub fn syrian_length(i: u16, p: u64) -> u64
@@ -125,7 +132,7 @@ pub fn syrian_date(day: u32) -> Place
     if day < 1607739 {
         return parts::nowhere();
     }
-    evened_date(-4489, 7, (day as u64) + 32082)
+    kind_date(-4489, 7, (day as u64) + 32082)
 }
 
 pub fn julian_length(i: u16, p: u64) -> u64
@@ -143,33 +150,10 @@ pub fn julian_month(i: u16, p: u64) -> Month
 pub fn julian_date(day: u32) -> Place
     ensures { λ r. ⌜ PlaceOf julian day (r .year) (r .month) (r .day) ⌝ }
 {
-    evened_date(-4800, 10, (day as u64) + 32082)
+    kind_date(-4800, 10, (day as u64) + 32082)
 }
 
 // ---- Gregorian
-
-// z / 100 and z / 400, for years z, from one product.
-fn hundreds(z: u64) -> u64
-    requires { ⌜ z ≤ 100000 ⌝ }
-    ensures { λ r. ⌜ r ≡ z / 100 ⌝ }
-{
-    (1374389535 * z) >> 37
-}
-
-fn four_hundreds(z: u64) -> u64
-    requires { ⌜ z ≤ 100000 ⌝ }
-    ensures { λ r. ⌜ r ≡ z / 100 / 4 ⌝ }
-{
-    (1374389535 * z) >> 39
-}
-
-// Whether the February that ends the year z from March, of this century, has 29 days: it falls in the year z + 1.
-fn long_february(z: u64, century: u64) -> bool
-    requires { ⌜ (century ≡ z / 100) × (z ≤ 8589934592) ⌝ }
-    ensures { λ r. ⌜ r ≡ gregorianLong z ⌝ }
-{
-    (z % 4 == 3) & ((z != 100 * century + 99) | (century % 4 == 3))
-}
 
 pub fn gregorian_length(i: u16, p: u64) -> u64
     ensures { λ r. ⌜ r ≡ lengthAt gregorian i p ⌝ }
@@ -178,14 +162,14 @@ pub fn gregorian_length(i: u16, p: u64) -> u64
         return 0;
     }
     let wrap = wraps(p, 10);
-    let z = 87 + (i as u64) + wrap;
-    let february = parts::pick(long_february(z, z / 100), 29, 28);
+    let z = 87 + (i as u32) + (wrap as u32);
+    let february = parts::pick(gregorian_years::is_long(z), 29, 28);
     month_length(february, p + 10 - 12 * wrap)
 }
 
 // Whether month q has no such day: the century rule is looked at only for a 29 February.
-fn no_day(z: u64, century: u64, q: u64, day: u64) -> bool
-    requires { ⌜ (century ≡ z / 100) × (z ≤ 8589934592) × (q < 12) ⌝ }
+fn no_day(z: u32, q: u64, day: u64) -> bool
+    requires { ⌜ q < 12 ⌝ }
     ensures { λ r. ⌜ r ≡ (eqb day 0 || ltb (monthLength (gregorianLong z) q) day) ⌝ }
 {
     let usual = parts::pick(q == 11, 28, 30 + (0x6b5 >> q) % 2);
@@ -195,7 +179,7 @@ fn no_day(z: u64, century: u64, q: u64, day: u64) -> bool
     if (q != 11) | (day != 29) {
         return true;
     }
-    !long_february(z, century)
+    !gregorian_years::is_long(z)
 }
 
 // A day of a position of the year that is i years after the first: its number with 3, 4 and 5 tried, and a refusal's number 2^32 high. By itself, and not
@@ -207,13 +191,12 @@ pub fn gregorian_day(i: u16, p: u64, day: u64) -> u64
         return 0x3_0000_0000;
     }
     let wrap = wraps(p, 10);
-    let z = 87 + (i as u64) + wrap;
+    let z = 87 + (i as u32) + (wrap as u32);
     let q = p + 10 - 12 * wrap;
-    let century = hundreds(z);
-    if no_day(z, century, q, day) {
+    if no_day(z, q, day) {
         return 0x4_0000_0000;
     }
-    let n = 1461 * z / 4 - century + four_hundreds(z) + days_before(q) - 32044 + (day - 1);
+    let n = gregorian_years::year_start(z) + days_before(q) - 32044 + (day - 1);
     if 5373484 < n {
         return 0x5_0000_0000;
     }
@@ -226,7 +209,6 @@ pub fn gregorian_date(day: u32) -> Place
     if day < 38 {
         return parts::nowhere();
     }
-    let n = (day as u64) + 32044;
-    let century = (4 * n + 3) / 146097;
-    evened_date(-4800, 10, n + century - century / 4)
+    let y = gregorian_years::year_of(day, 32044);
+    date_in(-4800, 10, y.year, y.rest)
 }

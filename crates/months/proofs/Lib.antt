@@ -6,9 +6,12 @@ pub mod ByLine
 pub mod Lines
 pub mod Dates
 pub mod Turned
+pub mod LeapLast
 pub mod Thirties
 pub mod Islamic
 pub mod Tested
+pub mod GregorianKind
+pub mod BahaiSaka
 pub mod March
 pub mod MarchDates
 pub mod HebrewGates

@@ -12,7 +12,7 @@ use Rattle.counting.specs.Answers.{years}
 use Rattle.calendar_rules.specs.Calendars.{thirtiesAnd5, thirtiesAnd5or6, inTurn, fromSeptember, fromOctober, fromJanuary}
 use Rattle.calendar_rules.specs.Calendars.{macedonian, syrian, julian, gregorian}
 use Rattle.months.specs.Lines.{turnedBy, ByLine, byLines, lengths, Yields, Finds}
-use Rattle.months.specs.Leap.{fourthLeap, islamicLeapAt, leapBy, centuries}
+use Rattle.months.specs.Leap.{fourthLeap, islamicLeapAt, gregorianLong}
 use Rattle.months.specs.March.{fromMarch}
 use Rattle.months.proofs.ByLine.{OnLine, grows, on-line, by-line}
 use Rattle.months.proofs.Rows.{plain-row, coptic-row, islamic-row, macedonian-row, syrian-row, julian-row, gregorian-row}
@@ -66,7 +66,7 @@ lies =
     and from-march 6 (years macedonian) fromSeptember (fourthLeap 1) (λ t u. refl) macedonian-row
     and from-march 5 (years syrian) fromOctober (fourthLeap 1) (λ t u. refl) syrian-row
     and from-march 2 (years julian) fromJanuary (fourthLeap 3) (λ t u. refl) julian-row
-    and from-march 2 (years gregorian) fromJanuary (λ i. leapBy centuries (i + 88)) (λ t u. refl) gregorian-row
+    and from-march 2 (years gregorian) fromJanuary (λ i. gregorianLong (87 + i)) (λ t u. refl) gregorian-row
     and (λ i. from-first _ i (islamic-row 1948439 i) (turn-line (islamicLeapAt i)))
     and (λ i. from-first _ i (islamic-row 1948440 i) (turn-line (islamicLeapAt i)))
     and tt

@@ -8,19 +8,18 @@ use native.Mathlib.Omega.{arith}
 use lib.Dec.{eqb, ltb, leb}
 use borrow.Author.Tests.{eqb-true, eqb-false, ne-eqb, leb-false, lt-ltb, le-ltb}
 use lib.IntN.{ℤ, pos, negsuc}
-use lib.ListN.{length, take, getD}
-use Rattle.counting.specs.Calendar.{total, start}
+use lib.ListN.{length, getD}
 use Rattle.counting.specs.Years.{yearAt}
 use Rattle.counting.specs.Answers.{Calendar, years}
-use Rattle.calendar_rules.specs.Calendars.{fromSeptember, fromOctober, fromJanuary, macedonian, syrian, julian, gregorian}
+use Rattle.calendar_rules.specs.Calendars.{macedonian, syrian, julian, gregorian}
 use Rattle.months.specs.Lines.{turnedBy}
-use Rattle.months.specs.Leap.{Common, fourthLeap, leapBy, centuries}
-use Rattle.months.specs.March.{marchYears, julianLong, gregorianLong, julianStart, gregorianStart, julianYears, julianFirst, Evened, monthLength}
+use Rattle.months.specs.Leap.{yearsBy, gregorianLong, gregorianStart, GregorianDay}
+use Rattle.months.specs.March.{fromMarch, marchBefore, marchOf, julianLong, julianStart, julianYears, julianFirst, JulianDate, MarchDate, monthLength}
 use Rattle.months.specs.Parts.{MonthIs, MonthOf, DateIs}
-use Rattle.months.proofs.Years.{days-by}
-use Rattle.months.proofs.Rows.{macedonian-row, syrian-row, julian-row, gregorian-row}
-use Rattle.months.proofs.March.{julian-start, julian-day, gregorian-start, gregorian-day, first-is, turned-positions, turned-month, turned-date}
-use Rattle.months.proofs.March.{macedonian-turns, syrian-turns, julian-turns, gregorian-turns}
+use Rattle.months.proofs.Rows.{gregorian-row}
+use Rattle.months.proofs.LeapLast.{wrapped, first-is, turned-positions, turned-date}
+use Rattle.months.proofs.March.{march-shape, length-is, julian-start, julian-day, turned-month, macedonian-turns, syrian-turns, julian-turns}
+use Rattle.months.proofs.GregorianKind.{OfKind, kind-positions, kind-at, kind-date}
 
 pub macedonian-years : julianYears 4489 6 ≡ years macedonian
 macedonian-years = λ t i. macedonian-turns i t
@@ -31,38 +30,16 @@ syrian-years = λ t i. syrian-turns i t
 pub julian-years : julianYears 87 10 ≡ years julian
 julian-years = λ t i. julian-turns i t
 
-gregorian-years : turnedBy 10 (λ i. marchYears gregorianLong (87 + i)) ≡ years gregorian
-gregorian-years = λ t i. gregorian-turns i t
-
--- their years have days
-by-row : {L : ℕ → List ℕ} (positions : Bool → List ℕ) (leap : ℕ → Bool) → Common 365 positions → ((i : ℕ) → L i ≡ positions (leap i)) → (i : ℕ)
-    → 1 ≤ total (L i)
-by-row positions leap c e i = omega (arith, ap total (e i), days-by c (leap i))
-
-september : Common 365 fromSeptember
-unfolding total
-september = record { common = refl; leap = refl }
-
-october : Common 365 fromOctober
-unfolding total
-october = record { common = refl; leap = refl }
-
-january : Common 365 fromJanuary
-unfolding total
-january = record { common = refl; leap = refl }
-
 -- ---- Julian kind
 
 pub julian-positions : (z k i : ℕ) → k < 12 → length (julianYears z k i) ≡ 12
-julian-positions z k i h = turned-positions julianLong julianStart julian-start z k 32082 h i
+julian-positions z k i h = turned-positions march-shape julianLong julianStart julian-start z k h i
 
 pub julian-month : (z₀ k i p : ℕ) → k < 12 → 32082 ≤ julianStart z₀ + (153 * k + 2) / 5 → p < 12
     → let w = cond {A = ℕ} (ltb (p + k) 12) 0 1 in let z = z₀ + i + w in let q = p + k - 12 * w in
     MonthIs (julianYears z₀ k) (julianFirst z₀ k) i p (365 * z + z / 4 + (153 * q + 2) / 5 - 32082) (monthLength (eqb (z % 4) 3) q)
 unfolding julianLong
-julian-month z₀ k i p h b l =
-    let s = first-is julianLong julianStart julian-start z₀ k 32082 h in
-    rw s at (turned-month julianLong julianStart julian-start z₀ k 32082 h (omega (arith, s)) i p l)
+julian-month z₀ k i p h b l = turned-month julianLong julianStart julian-start z₀ k 32082 h b i p l
 
 pub kind-length : (z₀ k i p : ℕ) → k < 12 → p < 12
     → let w = cond {A = ℕ} (ltb (p + k) 12) 0 1 in
@@ -72,66 +49,46 @@ unfolding julianLong
 kind-length z₀ k i p h l = turned-month julianLong julianStart julian-start z₀ k 0 h (omega arith) i p l .length-is
 
 -- a calendar that is one of them
-pub kind-date : (K : Calendar) (z₀ k : ℕ) (F before : ℤ) → k < 12 → 32082 ≤ julianStart z₀ + (153 * k + 2) / 5 → ((i : ℕ) → 1 ≤ total (years K i))
-    → yearAt before (suc z₀) ≡ F → julianYears z₀ k ≡ years K
-    → (day : ℕ) (y : ℤ) (m d : ℕ) → julianFirst z₀ k ≤ day → Evened before k (day + 32082) y m d → DateIs (years K) F (day - julianFirst z₀ k) y m d
-kind-date K z₀ k F before h b has ey e day y m d l x =
-    let s = first-is julianLong julianStart julian-start z₀ k 32082 h in
+julian-kind : (K : Calendar) (z₀ k : ℕ) (Y F : ℤ) → k < 12 → 32082 ≤ julianStart z₀ + (153 * k + 2) / 5 → yearAt F (suc z₀) ≡ Y → julianYears z₀ k ≡ years K
+    → (day : ℕ) (y : ℤ) (m d : ℕ) → julianFirst z₀ k ≤ day → JulianDate F k (day + 32082) y m d → DateIs (years K) Y (day - julianFirst z₀ k) y m d
+julian-kind K z₀ k Y F h b ey e day y m d l x =
+    let s = first-is march-shape julianLong julianStart julian-start z₀ k h in
     let j = julian-day (day + 32082) in
-    let has′ : (i : ℕ) → 1 ≤ total (julianYears z₀ k i) = λ i. omega (arith, has i, ap (λ (L : ℕ → List ℕ). total (L i)) e) in
-    subst (λ (L : ℕ → List ℕ). DateIs L F (day - julianFirst z₀ k) y m d) e
-    (turned-date julianLong julianStart julian-start z₀ k 32082 h has′ F before ey (day - julianFirst z₀ k) ((4 * (day + 32082) + 3) / 1461)
-    ((4 * (day + 32082) + 3) % 1461 / 4) (omega (arith, j .0, s)) (j .1) y m d (x .late) (x .soon) (x .day))
+    subst (λ (L : ℕ → List ℕ). DateIs L Y (day - julianFirst z₀ k) y m d) e
+    (turned-date march-shape julianLong julianStart julian-start z₀ k h Y F ey (day - julianFirst z₀ k) ((4 * (day + 32082) + 3) / 1461)
+    ((4 * (day + 32082) + 3) % 1461 / 4) (omega (arith, j .0, s)) (j .1) y m d x)
 
 module _ (day : ℕ) (y : ℤ) (m d : ℕ) where
-  pub macedonian-date : 1607709 ≤ day → Evened (negsuc 4488) 6 (day + 32082) y m d → DateIs (years macedonian) (pos 1) (day - 1607709) y m d
-  macedonian-date h x =
-      let has = by-row fromSeptember (fourthLeap 1) september macedonian-row in
-      kind-date macedonian 4489 6 (pos 1) (negsuc 4488) (omega arith) (omega arith) has refl macedonian-years day y m d h x
+  pub macedonian-date : 1607709 ≤ day → JulianDate (negsuc 4488) 6 (day + 32082) y m d → DateIs (years macedonian) (pos 1) (day - 1607709) y m d
+  macedonian-date h x = julian-kind macedonian 4489 6 (pos 1) (negsuc 4488) (omega arith) (omega arith) refl macedonian-years day y m d h x
 
-  pub syrian-date : 1607739 ≤ day → Evened (negsuc 4488) 7 (day + 32082) y m d → DateIs (years syrian) (pos 1) (day - 1607739) y m d
-  syrian-date h x =
-      let has = by-row fromOctober (fourthLeap 1) october syrian-row in
-      kind-date syrian 4489 7 (pos 1) (negsuc 4488) (omega arith) (omega arith) has refl syrian-years day y m d h x
+  pub syrian-date : 1607739 ≤ day → JulianDate (negsuc 4488) 7 (day + 32082) y m d → DateIs (years syrian) (pos 1) (day - 1607739) y m d
+  syrian-date h x = julian-kind syrian 4489 7 (pos 1) (negsuc 4488) (omega arith) (omega arith) refl syrian-years day y m d h x
 
-  pub julian-date : Evened (negsuc 4799) 10 (day + 32082) y m d → DateIs (years julian) (negsuc 4711) (day - 0) y m d
-  julian-date x =
-      let has = by-row fromJanuary (fourthLeap 3) january julian-row in
-      kind-date julian 87 10 (negsuc 4711) (negsuc 4799) (omega arith) (omega arith) has refl julian-years day y m d (omega arith) x
+  pub julian-date : JulianDate (negsuc 4799) 10 (day + 32082) y m d → DateIs (years julian) (negsuc 4711) (day - 0) y m d
+  julian-date x = julian-kind julian 87 10 (negsuc 4711) (negsuc 4799) (omega arith) (omega arith) refl julian-years day y m d (omega arith) x
 
 -- ---- Gregorian
 
+gregorian-kind : OfKind gregorian fromMarch 12 marchBefore marchOf 87 10 32044
+unfolding turnedBy yearsBy
+gregorian-kind = record { shape = march-shape; small = omega arith; first = refl; turns = λ t i. sym (gregorian-row i) t }
+
 pub gregorian-positions : (i : ℕ) → length (years gregorian i) ≡ 12
-gregorian-positions i =
-    ap (λ (K : ℕ → List ℕ). length (K i)) (sym gregorian-years) ∙ turned-positions gregorianLong gregorianStart gregorian-start 87 10 32044 (omega arith) i
+gregorian-positions i = kind-positions gregorian-kind i
 
 pub gregorian-month : (i p : ℕ) → p < 12
     → let w = cond {A = ℕ} (ltb (p + 10) 12) 0 1 in let z = 87 + i + w in let q = p + 10 - 12 * w in
-    MonthOf gregorian i p (365 * z + z / 4 - z / 100 + z / 100 / 4 + (153 * q + 2) / 5 - 32044) (monthLength (gregorianLong z) q)
-gregorian-month i p l =
+    MonthOf gregorian i p (gregorianStart z + (153 * q + 2) / 5 - 32044) (monthLength (gregorianLong z) q)
+unfolding yearsBy
+gregorian-month i p h =
     let w : ℕ = cond (ltb (p + 10) 12) 0 1 in
-    let z : ℕ = 87 + i + w in
-    let q : ℕ = p + 10 - 12 * w in
-    let s : start (marchYears gregorianLong) 87 + total (take 10 (marchYears gregorianLong 87)) ≡ 32082 =
-    first-is gregorianLong gregorianStart gregorian-start 87 10 32044 (omega arith) in
-    subst (λ (K : ℕ → List ℕ). MonthIs K 38 i p (gregorianStart z + (153 * q + 2) / 5 - 32044) (monthLength (gregorianLong z) q)) gregorian-years
-    (rw s at (turned-month gregorianLong gregorianStart gregorian-start 87 10 32044 (omega arith) (omega (arith, s)) i p l))
+    let x = kind-at gregorian-kind i p h in
+    record { length-is = length-is gregorianLong (87 + i + w) (p + 10 - 12 * w) (wrapped 12 p 10 h (omega arith) .1) ∙ sym (x .1); begins = λ j. omega (arith, x .0) }
 
-pub gregorian-date : (day : ℕ) (y : ℤ) (m d : ℕ) → 38 ≤ day → let n = day + 32044 in let c = (4 * n + 3) / 146097 in
-    Evened (negsuc 4799) 10 (n + c - c / 4) y m d → DateIs (years gregorian) (negsuc 4711) (day - 38) y m d
-gregorian-date day y m d l x =
-    let n : ℕ = day + 32044 in
-    let c : ℕ = (4 * n + 3) / 146097 in
-    let q : ℕ = n + c - c / 4 in
-    let s : start (marchYears gregorianLong) 87 + total (take 10 (marchYears gregorianLong 87)) ≡ 32082 =
-    first-is gregorianLong gregorianStart gregorian-start 87 10 32044 (omega arith) in
-    let j = gregorian-day n in
-    let has : (i : ℕ) → 1 ≤ total (turnedBy 10 (λ i. marchYears gregorianLong (87 + i)) i) =
-    λ i. omega (arith, by-row fromJanuary (λ i. leapBy centuries (i + 88)) january gregorian-row i, ap (λ (K : ℕ → List ℕ). total (K i)) gregorian-years) in
-    let e : day - 38 + 32082 ≡ n = omega arith in
-    subst (λ (K : ℕ → List ℕ). DateIs K (negsuc 4711) (day - 38) y m d) gregorian-years
-    (turned-date gregorianLong gregorianStart gregorian-start 87 10 32044 (omega arith) has (negsuc 4711) (negsuc 4799) refl (day - 38) ((4 * q + 3) / 1461)
-    ((4 * q + 3) % 1461 / 4) (j .0 ∙ sym e ∙ ap (λ (k : ℕ). day - 38 + k) (sym s)) (j .1) y m d (x .late) (x .soon) (x .day))
+pub gregorian-date : (day z rest : ℕ) (y : ℤ) (m d : ℕ) → 38 ≤ day → GregorianDay (day + 32044) z rest → MarchDate (negsuc 4799) 10 z rest y m d
+    → DateIs (years gregorian) (negsuc 4711) (day - 38) y m d
+gregorian-date = kind-date gregorian-kind (negsuc 4799) refl
 
 -- what code takes away is there
 pub julian-room : (z₀ k i p w : ℕ) → k < 12 → 32082 ≤ julianStart z₀ + (153 * k + 2) / 5 → p < 12 → 12 * w ≤ p + k → p + k < 12 * w + 12

@@ -1,26 +1,22 @@
 -- The rows: the years of each calendar by the years from its first.
-use mathlib.Core.Path.{_≡_, refl, ap}
+use mathlib.Core.Path.{_≡_, refl, ap, _∙_}
 use mathlib.Core.Bool.{false}
-use Prim.Native.Nat.{ℕ, _+_, _*_, _%_, _<_}
+use Prim.Native.Nat.{ℕ, suc, _+_, _*_, _%_, _<_}
 use native.Mathlib.Omega.{arith}
-use lib.Dec.{eqb, ltb, leb}
-use lib.IntN.{pos, negsuc}
-use borrow.Author.Tests.{eqb-true, eqb-false, eq-eqb, ne-eqb, ltb-true, ltb-false, le-leb, lt-leb}
+use lib.Dec.{ltb, leb}
+use lib.IntN.{ℤ, pos, negsuc, _+ℤ_}
+use borrow.Author.Tests.{ltb-true, ltb-false, le-leb, lt-leb}
 use Rattle.counting.specs.Years.{modFloor, yearAt}
 use Rattle.counting.specs.Answers.{years}
-use Rattle.basics.proofs.Cases.{same-test}
+use Rattle.basics.proofs.Cases.{same-test, same-eqb}
 use Rattle.counting.proofs.Signs.{mod-after}
 use Rattle.calendar_rules.specs.Calendars.{remainder, gregorianLeap, islamicLeap, thirtiesAnd5, thirtiesAnd5or6, fiveAt9, fromSeptember, fromOctober}
 use Rattle.calendar_rules.specs.Calendars.{fromJanuary, inTurn, nineteens, sakaMonths, persian, macedonian, syrian, julian, gregorian, bahai, saka}
-use Rattle.months.specs.Leap.{fourthLeap, centuries, leapBy, islamicLeapAt}
+use Rattle.months.specs.Leap.{fourthLeap, gregorianLong, islamicLeapAt}
 use Rattle.months.specs.Parts.{plainFrom, copticFrom, islamicFrom}
 use Rattle.months.proofs.Gregorian.{in-words}
 
 -- ---- leap years by the years from the first
-
--- equations of numbers that hold together are one test
-pub same-eqb : (a b x y : ℕ) → (a ≡ b → x ≡ y) → (x ≡ y → a ≡ b) → eqb a b ≡ eqb x y
-same-eqb a b x y f g = same-test (eqb a b) (eqb x y) (λ h. eq-eqb x y (f (eqb-true a b h))) (λ h. ne-eqb x y (λ e. eqb-false a b h (g e)))
 
 -- remainder r by 4 in years from 1 on
 from-1 : (r p i : ℕ) → ((1 + i) % 4 ≡ r → (i + p) % 4 ≡ 3) → ((i + p) % 4 ≡ 3 → (1 + i) % 4 ≡ r) → remainder r 4 (yearAt (pos 1) i) ≡ fourthLeap p i
@@ -33,12 +29,24 @@ threes i = from-1 3 1 i (omega arith) (omega arith)
 divisible : (i : ℕ) → remainder 0 4 (yearAt (negsuc 4711) i) ≡ fourthLeap 3 i
 divisible i = rw (mod-after 4711 0 1178 4 i (omega arith) refl) (same-eqb ((i + 0) % 4) 0 ((i + 3) % 4) 3 (omega arith) (omega arith))
 
--- the Gregorian rule from -4712 on, 88 years after -4800, which is divisible by 400
-from-4712 : (i : ℕ) → gregorianLeap (yearAt (negsuc 4711) i) ≡ leapBy centuries (i + 88)
-from-4712 i = rw (after 1200 4 (omega arith) refl, after 48 100 (omega arith) refl, after 12 400 (omega arith) refl) (in-words (i + 88))
+-- the Gregorian rule of a year that is z + 1 years after one that is divisible by 400
+by-rests : (y : ℤ) (z : ℕ) → modFloor y 4 ≡ suc z % 4 → modFloor y 100 ≡ suc z % 100 → modFloor y 400 ≡ suc z % 400 → gregorianLeap y ≡ gregorianLong z
+by-rests y z a b c = rw (a, b, c) (in-words z)
+
+-- from -4712 on, 88 years after -4800
+from-4712 : (i : ℕ) → gregorianLeap (yearAt (negsuc 4711) i) ≡ gregorianLong (87 + i)
+from-4712 i = by-rests (yearAt (negsuc 4711) i) (87 + i) (after 1200 4 (omega arith) refl) (after 48 100 (omega arith) refl) (after 12 400 (omega arith) refl)
   where
-    after : (q b : ℕ) → 0 < b → 4800 ≡ q * b → modFloor (yearAt (negsuc 4711) i) b ≡ (i + 88) % b
-    after q b h e = mod-after 4711 88 q b i h e
+    after : (q b : ℕ) → 0 < b → 4800 ≡ q * b → modFloor (yearAt (negsuc 4711) i) b ≡ suc (87 + i) % b
+    after q b h e = let s : i + 88 ≡ suc (87 + i) = omega arith in mod-after 4711 88 q b i h e ∙ ap (λ (x : ℕ). x % b) s
+
+-- from year 1 on, where k is added to the year
+from-year-1 : (k i : ℕ) → gregorianLeap (yearAt (pos 1) i +ℤ pos k) ≡ gregorianLong (k + 4800 + i)
+from-year-1 k i =
+    by-rests (yearAt (pos 1) i +ℤ pos k) (k + 4800 + i) (rest 4 (omega arith)) (rest 100 (omega arith)) (rest 400 (omega arith))
+  where
+    rest : (b : ℕ) → (1 + i + k) % b ≡ suc (k + 4800 + i) % b → modFloor (yearAt (pos 1) i +ℤ pos k) b ≡ suc (k + 4800 + i) % b
+    rest b e = e
 
 -- 11 in 30: a remainder that 11 takes past 30
 eleven : (i : ℕ) → islamicLeap (yearAt (pos 1) i) ≡ islamicLeapAt i
@@ -83,14 +91,14 @@ pub julian-row : (i : ℕ) → years julian i ≡ fromJanuary (fourthLeap 3 i)
 unfolding years
 julian-row i = ap fromJanuary (divisible i)
 
-pub gregorian-row : (i : ℕ) → years gregorian i ≡ fromJanuary (leapBy centuries (i + 88))
+pub gregorian-row : (i : ℕ) → years gregorian i ≡ fromJanuary (gregorianLong (87 + i))
 unfolding years
 gregorian-row i = ap fromJanuary (from-4712 i)
 
-pub bahai-row : (i : ℕ) → years bahai i ≡ nineteens (fourthLeap 0 i)
+pub bahai-row : (i : ℕ) → years bahai i ≡ nineteens (gregorianLong (6644 + i))
 unfolding years
-bahai-row i = ap nineteens (from-1 0 0 i (omega arith) (omega arith))
+bahai-row i = ap nineteens (from-year-1 1844 i)
 
-pub saka-row : (i : ℕ) → years saka i ≡ sakaMonths (fourthLeap 2 i)
+pub saka-row : (i : ℕ) → years saka i ≡ sakaMonths (gregorianLong (4878 + i))
 unfolding years
-saka-row i = ap sakaMonths (from-1 2 2 i (omega arith) (omega arith))
+saka-row i = ap sakaMonths (from-year-1 78 i)

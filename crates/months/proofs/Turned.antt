@@ -11,7 +11,7 @@ use Rattle.counting.proofs.Totals.{total-append, total-split, total-take-add, t
 use Rattle.counting.proofs.Counting.{start-mono}
 use Rattle.months.specs.Lines.{turnedBy}
 
-module _ (M : ℕ → List ℕ) (twelve : (z : ℕ) → length (M z) ≡ 12) (z₀ k : ℕ) (small : k ≤ 12) where
+module _ (M : ℕ → List ℕ) (count : ℕ) (counted : (z : ℕ) → length (M z) ≡ count) (z₀ k : ℕ) (small : k ≤ count) where
   abbrev L : ℕ → List ℕ
   L = turnedBy k (λ i. M (z₀ + i))
 
@@ -24,12 +24,12 @@ module _ (M : ℕ → List ℕ) (twelve : (z : ℕ) → length (M z) ≡ 12) (z�
   unfolding turnedBy
   lengths-are i = let e : z₀ + suc i ≡ suc (z₀ + i) = omega arith in ap (λ (z : ℕ). drop k (M (z₀ + i)) ++ take k (M z)) e
 
-  rest-length : (z : ℕ) → length (drop k (M z)) ≡ 12 - k
-  rest-length z = length-drop k (M z) ∙ ap (λ (n : ℕ). n - k) (twelve z)
+  rest-length : (z : ℕ) → length (drop k (M z)) ≡ count - k
+  rest-length z = length-drop k (M z) ∙ ap (λ (n : ℕ). n - k) (counted z)
 
-  pub positions : (i : ℕ) → length (L i) ≡ 12
+  pub positions : (i : ℕ) → length (L i) ≡ count
   positions i =
-      let t : length (take k (M (suc (z₀ + i)))) ≡ k = omega (arith, length-take k (M (suc (z₀ + i))), twelve (suc (z₀ + i))) in
+      let t : length (take k (M (suc (z₀ + i)))) ≡ k = omega (arith, length-take k (M (suc (z₀ + i))), counted (suc (z₀ + i))) in
       omega (arith, ap length (lengths-are i), length-append (drop k (M (z₀ + i))) (take k (M (suc (z₀ + i)))), rest-length (z₀ + i))
 
   pub starts : (i : ℕ) → start L i + S ≡ start M (z₀ + i) + total (take k (M (z₀ + i)))
@@ -47,7 +47,7 @@ module _ (M : ℕ → List ℕ) (twelve : (z : ℕ) → length (M z) ≡ 12) (z�
       )
 
   -- position p of year i is position q of year z of M, in the same year or, where w is 1, in the next
-  pub before-turn : (i p : ℕ) → p + k < 12
+  pub before-turn : (i p : ℕ) → p + k < count
       → (start L i + total (take p (L i)) + S ≡ start M (z₀ + i) + total (take (p + k) (M (z₀ + i)))) × (getD (L i) p 0 ≡ getD (M (z₀ + i)) (p + k) 0)
   before-turn i p h =
       let z = z₀ + i in
@@ -62,7 +62,7 @@ module _ (M : ℕ → List ℕ) (twelve : (z : ℕ) → length (M z) ≡ 12) (z�
             ∙ ap (λ (n : ℕ). getD (M z) n 0) c,
       )
 
-  pub after-turn : (i p q : ℕ) → p + k ≡ q + 12 → q < k
+  pub after-turn : (i p q : ℕ) → p + k ≡ q + count → q < k
       → (start L i + total (take p (L i)) + S ≡ start M (suc (z₀ + i)) + total (take q (M (suc (z₀ + i)))))
       × (getD (L i) p 0 ≡ getD (M (suc (z₀ + i))) q 0)
   unfolding start

@@ -1,8 +1,8 @@
 -- For code: leap years by the years from a calendar's first. Nobody has to believe this page; proofs/ shows that it is what the rows of the calendars say.
-use Prim.Native.Nat.{ℕ, _+_, _-_, _*_, _/_, _%_}
+use Prim.Native.Nat.{ℕ, suc, _+_, _-_, _*_, _/_, _%_, _<_}
 use mathlib.Core.Path.{_≡_}
 use mathlib.Core.List.{List, [], _∷_}
-use mathlib.Core.Bool.{Bool, true, false, not, _&&_}
+use mathlib.Core.Bool.{Bool, true, false, cond, not, _&&_}
 use lib.Dec.{eqb, leb}
 use Rattle.counting.specs.Calendar.{total}
 
@@ -36,6 +36,21 @@ centuries = 4 ∷ 100 ∷ 400 ∷ []
 unfoldable pub daysBelow : List ℕ → ℕ → ℕ
 daysBelow ms z = 365 * z + leapsBelow ms z
 
--- 11 in 30
+-- ---- the Gregorian kind, counted from -4800, which is divisible by 400: the extra day of year z falls in the Gregorian year z + 1
+
+unfoldable pub gregorianLong : ℕ → Bool
+gregorianLong z = leapBy centuries (suc z)
+
+-- the days before year z
+abbrev pub gregorianStart : ℕ → ℕ
+gregorianStart z = 365 * z + z / 4 - z / 100 + z / 100 / 4
+
+-- n days on it is day rest of year z, both counted from 0
+pub record GregorianDay (n z rest : ℕ) : Type 0 where
+  pub here : gregorianStart z + rest ≡ n
+  pub still : rest < 365 + cond (gregorianLong z) 1 0
+
+-- ---- 11 in 30
+
 abbrev pub islamicLeapAt : ℕ → Bool
 islamicLeapAt i = leb 19 ((11 * i + 14) % 30)

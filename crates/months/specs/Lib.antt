@@ -1,5 +1,7 @@
 pub mod Lines
 pub mod Leap
 pub mod Parts
+pub mod Turned
 pub mod March
 pub mod Hebrew
+pub mod BahaiSaka

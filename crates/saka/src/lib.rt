@@ -1,4 +1,6 @@
-// The Saka calendar, 15: one leap year in four; a position of 30 or 31 days, five of 31 and six of 30. Positions are counted from 0.
+// The Saka calendar, 15: a position of 30 or 31 days, five of 31 and six of 30. Counted from the second, where the extra day comes at the end, its years are of
+// the Gregorian kind: the extra day of year Y falls in the Gregorian year Y + 78, and the first year, which is year 1, begins in the year 4878 from -4800.
+// Positions are counted from 0.
 use parts::Month;
 use parts::Place;
 ghost use mathlib.Core.Path.{_≡_};
@@ -11,9 +13,9 @@ pub fn length_at(i: u16, p: u64) -> u64
     if 11 < p {
         return 0;
     }
-    let leap = (((i as u64) + 2) % 4 + 1) / 4;
+    let first = parts::pick(gregorian_years::is_long(4878 + (i as u32)), 31, 30);
     let usual = parts::pick(p < 6, 31, 30);
-    parts::pick(p == 0, 30 + leap, usual)
+    parts::pick(p == 0, first, usual)
 }
 
 // A position of the year that is i years after the first.
@@ -23,30 +25,32 @@ pub fn month_at(i: u16, p: u64) -> Month
     if 11 < p {
         return Month { start: 0, days: 0 };
     }
-    let y = i as u64;
-    let leap = ((y + 2) % 4 + 1) / 4;
-    let early = parts::pick(p < 6, p, 6);
-    let past = parts::pick(p == 0, 1, leap);
+    let wrap = parts::pick(p + 11 < 12, 0, 1);
+    let z = 4878 + (i as u32) + (wrap as u32);
+    let q = p + 11 - 12 * wrap;
+    let early = parts::pick(q < 5, q, 5);
     Month {
-        start: 1749995 + (1461 * y + 2) / 4 + (30 * p + early + past - 1),
+        start: gregorian_years::year_start(z) + (30 * q + early) - 31993,
         days: length_at(i, p),
     }
 }
 
-// The date of a day. x is the day of the year as if the first position had 31 days in every year: six of 31, then of 30.
+// The date of a day. The month without division, from 2 to 13, which is the first of the next year.
 pub fn date_on(day: u32) -> Place
     ensures { λ r. ⌜ PlaceOf saka day (r .year) (r .month) (r .day) ⌝ }
 {
     if day < 1749995 {
         return parts::nowhere();
     }
-    let t = 4 * ((day - 1749995) as u64) + 1;
-    let i = t / 1461;
-    let rest = t % 1461 / 4;
-    let leap = ((i + 2) % 4 + 1) / 4;
-    let x = rest + 1 - leap;
-    let month = parts::pick(x < 186, x / 31 + 1, (x + 24) / 30);
-    let usual = parts::pick(x < 186, x % 31, (x + 24) % 30);
-    let d = parts::pick(x < 31, rest, usual);
-    parts::place_in(1, i as u32, month, d + 1)
+    let y = gregorian_years::year_of(day, 31993);
+    let z = y.year;
+    let rest = y.rest;
+    let scaled = parts::pick(rest < 155, 33 * rest + 2052, 34 * rest + 1922);
+    let q = scaled / 1024 - 2;
+    let early = parts::pick(q < 5, q, 5);
+    let d = rest - (30 * q + early) + 1;
+    if q == 11 {
+        return parts::place_in(-4878, z + 1, 1, d);
+    }
+    parts::place_in(-4878, z, q + 2, d)
 }

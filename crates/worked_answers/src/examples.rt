@@ -1,4 +1,4 @@
-// The worked examples of docs/RULES.md on dates and Easter.
+// The worked examples of docs/RULES.md on dates and Easter, and the worked numbers of the change requests.
 use crate::output::put;
 use crate::show;
 
@@ -6,6 +6,8 @@ pub(crate) fn show_all(good: &mut bool) {
     put(good, b"Worked examples\n");
     show_dates(good);
     show_easters(good);
+    put(good, b"\nWorked numbers of the change requests\n");
+    show_requests(good);
 }
 
 fn show_dates(good: &mut bool) {
@@ -30,4 +32,10 @@ fn show_easters(good: &mut bool) {
     show::easter_of(good, 11, 1954);
     show::easter_of(good, 11, 1981);
     show::easter_of(good, 11, 1943);
+}
+
+// M-101.
+fn show_requests(good: &mut bool) {
+    show::day_of(good, 15, 1879, 1, 1);
+    show::day_of(good, 14, 157, 1, 1);
 }

@@ -10,10 +10,11 @@ use Rattle.basics.proofs.Cases.{neither}
 use Rattle.counting.specs.Calendar.{total, start}
 use Rattle.counting.specs.Answers.{years}
 use Rattle.calendar_rules.specs.Calendars.{gregorian}
-use Rattle.months.specs.March.{gregorianLong, monthLength}
+use Rattle.months.specs.Leap.{gregorianLong, gregorianStart}
+use Rattle.months.specs.March.{monthLength}
 use Rattle.months.specs.Parts.{MonthOf, lengthAt, packedIn, PackedAt}
 use Rattle.months.proofs.Dates.{no-length}
-use Rattle.months.proofs.MarchDates.{gregorian-positions, gregorian-month, gregorian-has, length-small, years-by-4}
+use Rattle.months.proofs.MarchDates.{gregorian-positions, gregorian-month, gregorian-has, length-small}
 use borrow.Author.Needs.{needs}
 use Rattle.march.proofs.gregorian_day.Statement.{statement}
 use Rattle.march.proofs.gregorian_day.Tie as tie
@@ -26,7 +27,7 @@ place w = w .before .before .args .p + 10 - 12 * w .wraps .result
 
 -- the position
 abbrev begin : tie.After-wraps → ℕ
-begin w = let z = year w in 365 * z + z / 4 - z / 100 + z / 100 / 4 + (153 * place w + 2) / 5 - 32044
+begin w = gregorianStart (year w) + (153 * place w + 2) / 5 - 32044
 
 month : (w : tie.After-wraps)
     → let s = w .before .before in MonthOf gregorian (s .args .i) (s .args .p) (begin w) (monthLength (gregorianLong (year w)) (place w))
@@ -34,7 +35,7 @@ month w = let s = w .before .before in rw (w .wraps .ensures .0) (gregorian-mont
 
 -- the day is one of its days
 abbrev wrap : tie.Else2 → tie.After-wraps
-wrap e = e .before .before .before
+wrap e = e .before .before
 
 has-it : (e : tie.Else2) → let w = wrap e in let d = w .before .before .args .day in (eqb d 0 || ltb (monthLength (gregorianLong (year w)) (place w)) d) ≡ false
 has-it e = sym (e .before .no-day .ensures) ∙ e .if2 .left
@@ -69,6 +70,9 @@ wraps-requires c κs = search needs
 add-z : tie.Need-add-z
 add-z c = search needs
 
+cast-z : tie.Need-cast-z
+cast-z c = search needs
+
 add-z-2 : tie.Need-add-z-2
 add-z-2 c = search needs
 
@@ -81,49 +85,32 @@ mul-q c = search needs
 sub-q : tie.Need-sub-q
 sub-q c = search needs
 
-hundreds-requires : tie.Need-hundreds-requires
-hundreds-requires c κs = search needs
-
 no-day-requires : tie.Need-no-day-requires
-no-day-requires c κs =
-    let w = c .before in
-    (c .hundreds .ensures, omega (arith, (w .before .before) .fits .i .fits, w .wraps .ensures), omega (arith, w .wraps .ensures))
+no-day-requires c κs = search needs
 
 returns-2 : tie.Need-returns-2
 returns-2 c =
     let h = c .before in
-    let w = h .before .before in
+    let w = h .before in
     there (w .before .before) _ (omega arith) (rw (← month w .length-is, sym (h .no-day .ensures) ∙ c .if2 .taken) refl)
 
-mul-n : tie.Need-mul-n
-mul-n c = search needs
-
-sub-n : tie.Need-sub-n
-sub-n c = search needs
-
-four-hundreds-requires : tie.Need-four-hundreds-requires
-four-hundreds-requires c κs = search needs
-
-add-n : tie.Need-add-n
-add-n c = search needs
+year-start-requires : tie.Need-year-start-requires
+year-start-requires c κs = search needs
 
 days-before-requires : tie.Need-days-before-requires
 days-before-requires c κs = search needs
 
-add-n-2 : tie.Need-add-n-2
-add-n-2 c = search needs
+add-n : tie.Need-add-n
+add-n c = search needs
+
+sub-n : tie.Need-sub-n
+sub-n c = let w = wrap (c .before .before) in omega (arith, c .days-before .ensures, c .before .year-start .ensures, w .wraps .ensures)
 
 sub-n-2 : tie.Need-sub-n-2
-sub-n-2 c =
-    let e = c .before .before in
-    let w = wrap e in
-    omega (arith, c .days-before .ensures, c .before .four-hundreds .ensures, e .before .before .hundreds .ensures, w .wraps .ensures)
+sub-n-2 c = omega (arith, inside (c .before .before) .0)
 
-sub-n-3 : tie.Need-sub-n-3
-sub-n-3 c = omega (arith, inside (c .before .before) .0)
-
-add-n-3 : tie.Need-add-n-3
-add-n-3 c = let w = wrap (c .before .before) in omega (arith, inside (c .before .before), length-small (gregorianLong (year w)) (place w))
+add-n-2 : tie.Need-add-n-2
+add-n-2 c = let w = wrap (c .before .before) in omega (arith, inside (c .before .before), length-small (gregorianLong (year w)) (place w))
 
 returns-3 : tie.Need-returns-3
 returns-3 c =
@@ -136,8 +123,7 @@ returns-3 c =
       ← m .length-is,
       has-it e,
       ← m .begins (length-small (gregorianLong (year w)) (place w) .0),
-      lt-ltb 5373484 (begin w + (w .before .before .args .day - 1))
-          (omega (arith, c .if3 .taken, d .days-before .ensures, d .before .four-hundreds .ensures, e .before .before .hundreds .ensures, years-by-4 (year w))),
+      lt-ltb 5373484 (begin w + (w .before .before .args .day - 1)) (omega (arith, c .if3 .taken, d .days-before .ensures, d .before .year-start .ensures)),
     ) refl)
 
 returns-4 : tie.Need-returns-4
@@ -151,9 +137,8 @@ returns-4 c =
       ← m .length-is,
       has-it e,
       ← m .begins (length-small (gregorianLong (year w)) (place w) .0),
-      le-ltb 5373484 (begin w + (w .before .before .args .day - 1))
-          (omega (arith, c .if3 .left, d .days-before .ensures, d .before .four-hundreds .ensures, e .before .before .hundreds .ensures, years-by-4 (year w))),
-    ) (omega (arith, d .days-before .ensures, d .before .four-hundreds .ensures, e .before .before .hundreds .ensures, years-by-4 (year w))))
+      le-ltb 5373484 (begin w + (w .before .before .args .day - 1)) (omega (arith, c .if3 .left, d .days-before .ensures, d .before .year-start .ensures)),
+    ) (omega (arith, d .days-before .ensures, d .before .year-start .ensures)))
 
 pub gregorian-day-spec : {M : Type 1} → statement M
 gregorian-day-spec =
@@ -162,21 +147,18 @@ gregorian-day-spec =
     returns
     wraps-requires
     add-z
+    cast-z
     add-z-2
     add-q
     mul-q
     sub-q
-    hundreds-requires
     no-day-requires
     returns-2
-    mul-n
-    sub-n
-    four-hundreds-requires
-    add-n
+    year-start-requires
     days-before-requires
-    add-n-2
+    add-n
+    sub-n
     sub-n-2
-    sub-n-3
-    add-n-3
+    add-n-2
     returns-3
     returns-4)

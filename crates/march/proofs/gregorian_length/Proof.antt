@@ -18,11 +18,14 @@ wraps-requires c κs = search needs
 add-z : tie.Need-add-z
 add-z c = search needs
 
+cast-z : tie.Need-cast-z
+cast-z c = search needs
+
 add-z-2 : tie.Need-add-z-2
 add-z-2 c = search needs
 
-long-february-requires : tie.Need-long-february-requires
-long-february-requires c κs = search needs
+is-long-requires : tie.Need-is-long-requires
+is-long-requires c κs = search needs
 
 pick-requires : tie.Need-pick-requires
 pick-requires c κs = search needs
@@ -40,13 +43,13 @@ month-length-requires : tie.Need-month-length-requires
 month-length-requires c κs =
     let w = c .before .before in
     let q : w .before .before .args .p + 10 - 12 * w .wraps .result < 12 = omega (arith, w .wraps .ensures) in
-    (rw (c .pick .ensures .0) (february-most (c .before .long-february .result)), q)
+    (rw (c .pick .ensures .0) (february-most (c .before .is-long .result)), q)
 
 returns-2 : tie.Need-returns-2
 returns-2 c =
     let w = c .before .before .before in
     let s = w .before .before in
-    rw (c .month-length .ensures, c .before .pick .ensures .0, c .before .before .long-february .ensures, w .wraps .ensures .0)
+    rw (c .month-length .ensures, c .before .pick .ensures .0, c .before .before .is-long .ensures, w .wraps .ensures .0)
     (gregorian-month (s .args .i) (s .args .p) (omega arith) .length-is)
 
 pub gregorian-length-spec : {M : Type 1} → statement M
@@ -56,8 +59,9 @@ gregorian-length-spec =
     returns
     wraps-requires
     add-z
+    cast-z
     add-z-2
-    long-february-requires
+    is-long-requires
     pick-requires
     add-month-length
     mul-month-length

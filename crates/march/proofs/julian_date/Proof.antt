@@ -9,16 +9,16 @@ use borrow.Author.Needs.{needs}
 use Rattle.march.proofs.julian_date.Statement.{statement}
 use Rattle.march.proofs.julian_date.Tie as tie
 
-add-evened-date : tie.Need-add-evened-date
-add-evened-date c = search needs
+add-kind-date : tie.Need-add-kind-date
+add-kind-date c = search needs
 
-evened-date-requires : tie.Need-evened-date-requires
-evened-date-requires c κs = search needs
+kind-date-requires : tie.Need-kind-date-requires
+kind-date-requires c κs = search needs
 
 returns : tie.Need-returns
 returns c =
     let day = c .before .args .day in
-    later-place (years julian) (negsuc 4711) 0 day _ _ _ (omega arith) (julian-date day _ _ _ (c .evened-date .ensures))
+    later-place (years julian) (negsuc 4711) 0 day _ _ _ (omega arith) (julian-date day _ _ _ (c .kind-date .ensures))
 
 pub julian-date-spec : {M : Type 1} → statement M
-julian-date-spec = tie.close (tie.spec add-evened-date evened-date-requires returns)
+julian-date-spec = tie.close (tie.spec add-kind-date kind-date-requires returns)

@@ -15,17 +15,17 @@ nowhere-requires c κs = search needs
 returns : tie.Need-returns
 returns c = early-place (years macedonian) (pos 1) 1607709 (c .before .before .args .day) _ _ _ (omega arith) (c .nowhere .ensures)
 
-add-evened-date : tie.Need-add-evened-date
-add-evened-date c = search needs
+add-kind-date : tie.Need-add-kind-date
+add-kind-date c = search needs
 
-evened-date-requires : tie.Need-evened-date-requires
-evened-date-requires c κs = search needs
+kind-date-requires : tie.Need-kind-date-requires
+kind-date-requires c κs = search needs
 
 returns-2 : tie.Need-returns-2
 returns-2 c =
     let day = c .before .before .args .day in
-    later-place (years macedonian) (pos 1) 1607709 day _ _ _ (omega arith) (macedonian-date day _ _ _ (omega arith) (c .evened-date .ensures))
+    later-place (years macedonian) (pos 1) 1607709 day _ _ _ (omega arith) (macedonian-date day _ _ _ (omega arith) (c .kind-date .ensures))
 
 pub macedonian-date-spec : {M : Type 1} → statement M
 macedonian-date-spec =
-    tie.close (tie.spec nowhere-requires returns add-evened-date evened-date-requires returns-2)
+    tie.close (tie.spec nowhere-requires returns add-kind-date kind-date-requires returns-2)

@@ -3,7 +3,7 @@ use mathlib.Core.Path.{sym, ap, _∙_}
 use mathlib.Core.Bool.{not}
 use borrow.Author.Tests.{eqb-false, leb-true, not-true}
 use Rattle.basics.proofs.Cases.{both}
-use Rattle.months.specs.March.{gregorianLong}
+use Rattle.months.specs.Leap.{gregorianLong}
 use Rattle.months.proofs.MarchDates.{has-day, lacks-day, leap-day}
 use borrow.Author.Needs.{needs}
 use Rattle.march.proofs.no_day.Statement.{statement}
@@ -30,15 +30,15 @@ returns-2 c =
     let s = e .before .before in
     sym (lacks-day (s .args .q) (s .args .day) (gregorianLong (s .args .z)) (rw (e .before .pick .ensures .0) at (e .if1 .left)) (c .if2 .taken))
 
-long-february-requires : tie.Need-long-february-requires
-long-february-requires c κs = search needs
+is-long-requires : tie.Need-is-long-requires
+is-long-requires c κs = search needs
 
 returns-3 : tie.Need-returns-3
 returns-3 c =
     let s = c .before .before .before .before in
-    ap not (c .long-february .ensures) ∙ sym (leap-day (s .args .q) (s .args .day) (gregorianLong (s .args .z)) (c .before .if2 .left))
+    ap not (c .is-long .ensures) ∙ sym (leap-day (s .args .q) (s .args .day) (gregorianLong (s .args .z)) (c .before .if2 .left))
 
 pub no-day-spec : {M : Type 1} → statement M
 no-day-spec =
     tie.close
-    (tie.spec shr-pick add-pick pick-requires returns returns-2 long-february-requires returns-3)
+    (tie.spec shr-pick add-pick pick-requires returns returns-2 is-long-requires returns-3)

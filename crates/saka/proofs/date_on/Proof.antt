@@ -1,12 +1,13 @@
 -- `saka::date_on` meets its contract.
-use Prim.Native.Nat.{_+_, _-_, _*_, _/_}
+use mathlib.Core.Path.{refl}
 use native.Mathlib.Omega.{arith}
-use lib.IntN.{pos}
+use lib.IntN.{pos, negsuc}
 use Rattle.counting.specs.Answers.{years}
 use Rattle.calendar_rules.specs.Calendars.{saka}
-use Rattle.months.proofs.Years.{by-fours}
+use Rattle.months.proofs.Gregorian.{year-small}
 use Rattle.months.proofs.Dates.{early-place, later-place}
-use Rattle.months.proofs.Tested.{saka-date}
+use Rattle.months.proofs.GregorianKind.{kind-date}
+use Rattle.months.proofs.BahaiSaka.{saka-kind, saka-from-2, saka-room}
 use borrow.Author.Needs.{needs}
 use Rattle.saka.proofs.date_on.Statement.{statement}
 use Rattle.saka.proofs.date_on.Tie as tie
@@ -17,29 +18,17 @@ nowhere-requires c κs = search needs
 returns : tie.Need-returns
 returns c = early-place (years saka) (pos 1) 1749995 (c .before .before .args .day) _ _ _ (omega arith) (c .nowhere .ensures)
 
-cast-t : tie.Need-cast-t
-cast-t c = search needs
+year-of-requires : tie.Need-year-of-requires
+year-of-requires c κs = search needs
 
-mul-t : tie.Need-mul-t
-mul-t c = search needs
-
-add-t : tie.Need-add-t
-add-t c = search needs
-
-add-leap : tie.Need-add-leap
-add-leap c = search needs
-
-add-leap-2 : tie.Need-add-leap-2
-add-leap-2 c = search needs
-
-add-x : tie.Need-add-x
-add-x c = search needs
-
-sub-x : tie.Need-sub-x
-sub-x c = search needs
+mul-pick : tie.Need-mul-pick
+mul-pick c = search needs
 
 add-pick : tie.Need-add-pick
 add-pick c = search needs
+
+mul-pick-2 : tie.Need-mul-pick-2
+mul-pick-2 c = search needs
 
 add-pick-2 : tie.Need-add-pick-2
 add-pick-2 c = search needs
@@ -47,17 +36,27 @@ add-pick-2 c = search needs
 pick-requires : tie.Need-pick-requires
 pick-requires c κs = search needs
 
-add-pick-3 : tie.Need-add-pick-3
-add-pick-3 c = search needs
+sub-q : tie.Need-sub-q
+sub-q c = rw (c .pick .ensures .0) (saka-from-2 (c .before .year-of .result .rest))
 
 pick-requires-2 : tie.Need-pick-requires-2
 pick-requires-2 c κs = search needs
 
-pick-requires-3 : tie.Need-pick-requires-3
-pick-requires-3 c κs = search needs
+mul-d : tie.Need-mul-d
+mul-d c = search needs
 
-cast-place-in : tie.Need-cast-place-in
-cast-place-in c = search needs
+add-d : tie.Need-add-d
+add-d c = search needs
+
+sub-d : tie.Need-sub-d
+sub-d c =
+    let q = c .before in
+    let y = q .before in
+    let r = rw (← q .pick .ensures .0) at (saka-room (y .year-of .result .rest) (omega (arith, year-small (y .year-of .ensures) .1))) in
+    omega (arith, c .pick2 .ensures .0, r .1)
+
+add-d-2 : tie.Need-add-d-2
+add-d-2 c = search needs
 
 add-place-in : tie.Need-add-place-in
 add-place-in c = search needs
@@ -67,13 +66,40 @@ place-in-requires c κs = search needs
 
 returns-2 : tie.Need-returns-2
 returns-2 c =
-    let d = c .before in
-    let s = d .before .before .before .before in
-    let e = by-fours ((4 * (s .args .day - 1749995) + 1) / 1461 + 2) in
+    let e = c .before .before in
+    let q = e .before in
+    let y = q .before in
+    let day = y .before .before .args .day in
     let p = c .place-in .ensures in
-    later-place (years saka) (pos 1) 1749995 (s .args .day) _ _ _ (omega arith)
-    (saka-date (s .args .day - 1749995) _ _ _ (p .0) (rw e at (rw (d .before .before .pick .ensures .0) at (p .1)))
-    (rw e at (rw (d .before .pick2 .ensures .0) at (rw (d .pick3 .ensures .0) at (p .2)))))
+    later-place (years saka) (pos 1) 1749995 day _ _ _ (omega arith)
+    (kind-date saka-kind (negsuc 4877) refl day _ _ _ _ _ (omega arith) (y .year-of .ensures)
+    (record {
+      late = λ h. (p .0, omega (arith, p .1, c .before .if2 .taken, q .pick .ensures .0));
+      soon = λ h. absurd (omega (arith, c .before .if2 .taken, q .pick .ensures .0));
+      day = omega (arith, p .2, q .pick .ensures .0, rw (q .pick .ensures .0) at (e .pick2 .ensures .0));
+    }))
+
+add-place-in-2 : tie.Need-add-place-in-2
+add-place-in-2 c = search needs
+
+place-in-requires-2 : tie.Need-place-in-requires-2
+place-in-requires-2 c κs = search needs
+
+returns-3 : tie.Need-returns-3
+returns-3 c =
+    let e = c .before .before in
+    let q = e .before in
+    let y = q .before in
+    let day = y .before .before .args .day in
+    let p = c .place-in2 .ensures in
+    let r = rw (← q .pick .ensures .0) at (saka-room (y .year-of .result .rest) (omega (arith, year-small (y .year-of .ensures) .1))) in
+    later-place (years saka) (pos 1) 1749995 day _ _ _ (omega arith)
+    (kind-date saka-kind (negsuc 4877) refl day _ _ _ _ _ (omega arith) (y .year-of .ensures)
+    (record {
+      late = λ h. absurd (omega (arith, c .before .if2 .left, q .pick .ensures .0, r .0));
+      soon = λ h. (p .0, omega (arith, p .1, q .pick .ensures .0));
+      day = omega (arith, p .2, q .pick .ensures .0, rw (q .pick .ensures .0) at (e .pick2 .ensures .0));
+    }))
 
 pub date-on-spec : {M : Type 1} → statement M
 date-on-spec =
@@ -81,20 +107,21 @@ date-on-spec =
     (tie.spec
     nowhere-requires
     returns
-    cast-t
-    mul-t
-    add-t
-    add-leap
-    add-leap-2
-    add-x
-    sub-x
+    year-of-requires
+    mul-pick
     add-pick
+    mul-pick-2
     add-pick-2
     pick-requires
-    add-pick-3
+    sub-q
     pick-requires-2
-    pick-requires-3
-    cast-place-in
+    mul-d
+    add-d
+    sub-d
+    add-d-2
     add-place-in
     place-in-requires
-    returns-2)
+    returns-2
+    add-place-in-2
+    place-in-requires-2
+    returns-3)

@@ -1,19 +1,10 @@
--- `march::evened_date` meets its contract.
+-- `march::date_in` meets its contract.
 use native.Mathlib.Omega.{arith}
 use mir.Syntax.{w32}
 use mir.ValLaws.{toZ-ofZ}
 use borrow.Author.Needs.{needs}
-use Rattle.march.proofs.evened_date.Statement.{statement}
-use Rattle.march.proofs.evened_date.Tie as tie
-
-mul-t : tie.Need-mul-t
-mul-t c = search needs
-
-add-t : tie.Need-add-t
-add-t c = search needs
-
-cast-z : tie.Need-cast-z
-cast-z c = search needs
+use Rattle.march.proofs.date_in.Statement.{statement}
+use Rattle.march.proofs.date_in.Tie as tie
 
 mul-p : tie.Need-mul-p
 mul-p c = search needs
@@ -66,13 +57,10 @@ returns-2 c =
     let s = c .before .before in
     record { late = λ h. absurd (omega arith); soon = λ h. (rw (toZ-ofZ w32 (s .args .before) (s .fits .before)) at (p .0), p .1); day = p .2 }
 
-pub evened-date-spec : {M : Type 1} → statement M
-evened-date-spec =
+pub date-in-spec : {M : Type 1} → statement M
+date-in-spec =
     tie.close
     (tie.spec
-    mul-t
-    add-t
-    cast-z
     mul-p
     add-p
     mul-d

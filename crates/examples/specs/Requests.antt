@@ -1,0 +1,12 @@
+-- The worked numbers of the change requests (docs/RULES.md, "Worked examples"), as one table: questions and answers as in the table of the starred ones.
+use mathlib.Core.List.{List, [], _∷_}
+use lib.IntN.{pos}
+use Rattle.calendar_rules.specs.Examples.{is}
+use Rattle.examples.specs.Starred.{Example, date}
+
+abbrev pub worked : List Example
+worked =
+    -- M-101: Saka 1879/1/1 is 2435920, Bahai 157/1/1 is 2451625
+    date 15 (pos 1879) 1 1 (is 2435920)
+    ∷ date 14 (pos 157) 1 1 (is 2451625)
+    ∷ []

@@ -1,0 +1,39 @@
+// Years of the Gregorian kind, which calendars 11, 14 and 15 have: counted from -4800, which is divisible by 400, each from a position after which its extra day
+// is the last. That of year z falls in the Gregorian year z + 1.
+ghost use mathlib.Core.Path.{_≡_};
+ghost use Prim.Native.Nat.{_+_};
+ghost use Rattle.months.specs.Leap.{gregorianLong, gregorianStart, GregorianDay};
+
+// A day: its year, and the days of that year before it.
+pub struct YearDay {
+    pub year: u32,
+    pub rest: u64,
+}
+
+// Whether year z has its extra day.
+pub fn is_long(z: u32) -> bool
+    ensures { λ r. ⌜ r ≡ gregorianLong z ⌝ }
+{
+    (z % 4 == 3) & ((z % 100 != 99) | (z / 100 % 4 == 3))
+}
+
+// The days before year z.
+pub fn year_start(z: u32) -> u64
+    ensures { λ r. ⌜ r ≡ gregorianStart z ⌝ }
+{
+    let century = (z / 100) as u64;
+    1461 * (z as u64) / 4 - century + century / 4
+}
+
+// The year of the day that is so many days after another: the century first, and then the year as if every fourth were leap.
+pub fn year_of(day: u32, after: u32) -> YearDay
+    ensures { λ r. ⌜ GregorianDay (day + after) (r .year) (r .rest) ⌝ }
+{
+    let n = (day as u64) + (after as u64);
+    let century = (4 * n + 3) / 146097;
+    let t = 4 * (n + century - century / 4) + 3;
+    YearDay {
+        year: (t / 1461) as u32,
+        rest: t % 1461 / 4,
+    }
+}

@@ -1,0 +1,99 @@
+-- Calendars 14 and 15, of the Gregorian kind.
+use mathlib.Core.Path.{_≡_, refl, sym}
+use mathlib.Core.Bool.{Bool, true, false, cond}
+use Prim.Native.Nat.{ℕ, _+_, _-_, _*_, _/_, _≤_, _<_}
+use native.Mathlib.Omega.{arith}
+use lib.Dec.{eqb, ltb}
+use lib.ListN.{take, getD}
+use borrow.Author.Tests.{ltb-false}
+use Rattle.basics.specs.Every.{every}
+use Rattle.basics.proofs.Cases.{cond-elim}
+use Rattle.counting.specs.Calendar.{total}
+use Rattle.counting.specs.Answers.{years}
+use Rattle.calendar_rules.specs.Calendars.{nineteens, sakaMonths, bahai, saka}
+use Rattle.months.specs.Lines.{turnedBy}
+use Rattle.months.specs.Leap.{yearsBy, gregorianLong}
+use Rattle.months.specs.BahaiSaka.{fromLast, bahaiBefore, bahaiOf, fromSecond, sakaBefore, sakaMonth, sakaOf}
+use Rattle.months.specs.Parts.{lengthAt}
+use Rattle.months.proofs.Rows.{bahai-row, saka-row}
+use Rattle.months.proofs.Tested.{tested-length}
+use Rattle.months.proofs.LeapLast.{Shape, placed, tested-shape}
+use Rattle.months.proofs.GregorianKind.{OfKind}
+
+-- ---- 14
+
+bahai-shape : Shape fromLast 20 bahaiBefore bahaiOf
+unfolding total every
+bahai-shape = tested-shape fromLast 20 bahaiBefore bahaiOf (λ t. refl) days before position
+  where
+    days : (t : Bool) → total (fromLast t) ≡ 365 + cond t 1 0
+    days true = refl
+    days false = refl
+
+    before : (t : Bool) → every (λ q. eqb (total (take q (fromLast t))) (bahaiBefore q)) 20 ≡ true
+    before true = refl
+    before false = refl
+
+    position : (t : Bool) → every (λ r. placed (fromLast t) 20 bahaiBefore (bahaiOf r) r) (365 + cond t 1 0) ≡ true
+    position true = refl
+    position false = refl
+
+pub bahai-kind : OfKind bahai fromLast 20 bahaiBefore bahaiOf 6644 1 32043
+unfolding turnedBy yearsBy
+bahai-kind = record { shape = bahai-shape; small = omega arith; first = refl; turns = λ t i. sym (bahai-row i) t }
+
+-- the length of a position
+abbrev pub bahaiLength : Bool → ℕ → ℕ
+bahaiLength t p = cond (eqb p 18) (cond t 5 4) 19
+
+bahai-lengths : (t : Bool) → every (λ q. eqb (bahaiLength t q) (getD (nineteens t) q 0)) 20 ≡ true
+unfolding every
+bahai-lengths true = refl
+bahai-lengths false = refl
+
+pub bahai-length : (i p : ℕ) → p < 20 → bahaiLength (gregorianLong (6644 + i)) p ≡ lengthAt bahai i p
+bahai-length i p h =
+    let t = gregorianLong (6644 + i) in tested-length (years bahai) i p (nineteens t) (bahaiLength t) 20 (bahai-row i) h (bahai-lengths t)
+
+-- ---- 15
+
+pub saka-shape : Shape fromSecond 12 sakaBefore sakaOf
+unfolding total every
+saka-shape = tested-shape fromSecond 12 sakaBefore sakaOf (λ t. refl) days before position
+  where
+    days : (t : Bool) → total (fromSecond t) ≡ 365 + cond t 1 0
+    days true = refl
+    days false = refl
+
+    before : (t : Bool) → every (λ q. eqb (total (take q (fromSecond t))) (sakaBefore q)) 12 ≡ true
+    before true = refl
+    before false = refl
+
+    position : (t : Bool) → every (λ r. placed (fromSecond t) 12 sakaBefore (sakaOf r) r) (365 + cond t 1 0) ≡ true
+    position true = refl
+    position false = refl
+
+pub saka-kind : OfKind saka fromSecond 12 sakaBefore sakaOf 4878 11 31993
+unfolding turnedBy yearsBy
+saka-kind = record { shape = saka-shape; small = omega arith; first = refl; turns = λ t i. sym (saka-row i) t }
+
+abbrev pub sakaLength : Bool → ℕ → ℕ
+sakaLength t p = cond (eqb p 0) (cond t 31 30) (cond (ltb p 6) 31 30)
+
+saka-lengths : (t : Bool) → every (λ q. eqb (sakaLength t q) (getD (sakaMonths t) q 0)) 12 ≡ true
+unfolding every
+saka-lengths true = refl
+saka-lengths false = refl
+
+pub saka-length : (i p : ℕ) → p < 12 → sakaLength (gregorianLong (4878 + i)) p ≡ lengthAt saka i p
+saka-length i p h =
+    let t = gregorianLong (4878 + i) in tested-length (years saka) i p (sakaMonths t) (sakaLength t) 12 (saka-row i) h (saka-lengths t)
+
+-- what code takes away is there
+pub saka-from-2 : (rest : ℕ) → 2 ≤ sakaMonth rest
+saka-from-2 rest =
+    cond-elim (λ (k : ℕ). 2 ≤ k / 1024) (ltb rest 155) _ _ (λ h. omega arith) (λ h. omega (arith, ltb-false rest 155 h))
+
+pub saka-room : (rest : ℕ) → rest < 366 → (sakaOf rest < 12) × (sakaBefore (sakaOf rest) ≤ rest)
+unfolding total
+saka-room rest h = let x = saka-shape .place true rest h in (x .0, x .1)
