@@ -4,8 +4,23 @@
 use parts::Month;
 use parts::Place;
 ghost use mathlib.Core.Path.{_≡_};
+ghost use Prim.Native.Nat.{_<_};
+ghost use lib.ListN.{getD};
 ghost use Rattle.calendar_rules.specs.Calendars.{bahai};
+ghost use Rattle.months.specs.BahaiSaka.{fromLast};
+ghost use Rattle.months.specs.Leap.{gregorianLong};
 ghost use Rattle.months.specs.Parts.{lengthAt, MonthOf, PlaceOf};
+
+// The length of position q of year z as so counted: the rule is looked at only for the short one.
+fn counted_length(z: u32, q: u64) -> u64
+    requires { ⌜ q < 20 ⌝ }
+    ensures { λ r. ⌜ r ≡ getD (fromLast (gregorianLong z)) q 0 ⌝ }
+{
+    if q != 19 {
+        return 19;
+    }
+    4 + gregorian_years::extra_days(z)
+}
 
 pub fn length_at(i: u16, p: u64) -> u64
     ensures { λ r. ⌜ r ≡ lengthAt bahai i p ⌝ }
@@ -13,10 +28,8 @@ pub fn length_at(i: u16, p: u64) -> u64
     if 19 < p {
         return 0;
     }
-    if p != 18 {
-        return 19;
-    }
-    parts::pick(gregorian_years::is_long(6644 + (i as u32)), 5, 4)
+    let wrap = parts::pick(p + 1 < 20, 0, 1);
+    counted_length(6644 + (i as u32) + (wrap as u32), p + 1 - 20 * wrap)
 }
 
 // A position of the year that is i years after the first.
@@ -28,12 +41,14 @@ pub fn month_at(i: u16, p: u64) -> Month
     }
     let wrap = parts::pick(p + 1 < 20, 0, 1);
     let z = 6644 + (i as u32) + (wrap as u32);
+    let q = p + 1 - 20 * wrap;
     Month {
-        start: gregorian_years::year_start(z) + 19 * (p + 1 - 20 * wrap) - 32043,
-        days: length_at(i, p),
+        start: gregorian_years::year_start(z) + 19 * q - 32043,
+        days: counted_length(z, q),
     }
 }
 
+// The date of a day: its position without division.
 pub fn date_on(day: u32) -> Place
     ensures { λ r. ⌜ PlaceOf bahai day (r .year) (r .month) (r .day) ⌝ }
 {
@@ -41,10 +56,10 @@ pub fn date_on(day: u32) -> Place
         return parts::nowhere();
     }
     let y = gregorian_years::year_of(day, 32043);
-    let p = y.rest / 19;
-    let d = y.rest % 19 + 1;
-    if p == 0 {
-        return parts::place_in(-6644, y.year, 20, d);
-    }
-    parts::place_in(-6644, y.year + 1, p, d)
+    let z = y.year;
+    let rest = y.rest;
+    let p = 27 * rest / 512;
+    let d = rest - 19 * p + 1;
+    let wrap = parts::pick(p != 0, 1, 0);
+    parts::place_in(-6644, z + (wrap as u32), parts::pick(p != 0, p, 20), d)
 }

@@ -1,7 +1,8 @@
 // Years of the Gregorian kind, which calendars 11, 14 and 15 have: counted from -4800, which is divisible by 400, each from a position after which its extra day
 // is the last. That of year z falls in the Gregorian year z + 1.
+ghost use mathlib.Core.Bool.{cond};
 ghost use mathlib.Core.Path.{_≡_};
-ghost use Prim.Native.Nat.{_+_};
+ghost use Prim.Native.Nat.{_+_, _≤_};
 ghost use Rattle.months.specs.Leap.{gregorianLong, gregorianStart, GregorianDay};
 
 // A day: its year, and the days of that year before it.
@@ -10,11 +11,14 @@ pub struct YearDay {
     pub rest: u64,
 }
 
-// Whether year z has its extra day.
-pub fn is_long(z: u32) -> bool
-    ensures { λ r. ⌜ r ≡ gregorianLong z ⌝ }
+// 1 if year z has its extra day, else 0. A branch for the centuries, which is seldom taken, costs less than to try them in every year.
+pub fn extra_days(z: u32) -> u64
+    ensures { λ r. ⌜ (r ≡ cond (gregorianLong z) 1 0) × (r ≤ 1) ⌝ }
 {
-    (z % 4 == 3) & ((z % 100 != 99) | (z / 100 % 4 == 3))
+    if z % 100 == 99 {
+        return ((z / 100 % 4 + 1) / 4) as u64;
+    }
+    ((z % 4 + 1) / 4) as u64
 }
 
 // The days before year z.

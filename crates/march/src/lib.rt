@@ -163,8 +163,7 @@ pub fn gregorian_length(i: u16, p: u64) -> u64
     }
     let wrap = wraps(p, 10);
     let z = 87 + (i as u32) + (wrap as u32);
-    let february = parts::pick(gregorian_years::is_long(z), 29, 28);
-    month_length(february, p + 10 - 12 * wrap)
+    month_length(28 + gregorian_years::extra_days(z), p + 10 - 12 * wrap)
 }
 
 // Whether month q has no such day: the century rule is looked at only for a 29 February.
@@ -179,7 +178,7 @@ fn no_day(z: u32, q: u64, day: u64) -> bool
     if (q != 11) | (day != 29) {
         return true;
     }
-    !gregorian_years::is_long(z)
+    gregorian_years::extra_days(z) == 0
 }
 
 // A day of a position of the year that is i years after the first: its number with 3, 4 and 5 tried, and a refusal's number 2^32 high. By itself, and not

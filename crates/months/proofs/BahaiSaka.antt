@@ -9,14 +9,12 @@ use borrow.Author.Tests.{ltb-false}
 use Rattle.basics.specs.Every.{every}
 use Rattle.basics.proofs.Cases.{cond-elim}
 use Rattle.counting.specs.Calendar.{total}
-use Rattle.counting.specs.Answers.{years}
-use Rattle.calendar_rules.specs.Calendars.{nineteens, sakaMonths, bahai, saka}
+use Rattle.calendar_rules.specs.Calendars.{bahai, saka}
 use Rattle.months.specs.Lines.{turnedBy}
-use Rattle.months.specs.Leap.{yearsBy, gregorianLong}
-use Rattle.months.specs.BahaiSaka.{fromLast, bahaiBefore, bahaiOf, fromSecond, sakaBefore, sakaMonth, sakaOf}
-use Rattle.months.specs.Parts.{lengthAt}
+use Rattle.months.specs.Leap.{yearsBy}
+use Rattle.months.specs.BahaiSaka.{fromLast, bahaiBefore, bahaiOf, fromSecond, sakaBefore, sakaMonth, sakaOf, sakaLength}
 use Rattle.months.proofs.Rows.{bahai-row, saka-row}
-use Rattle.months.proofs.Tested.{tested-length}
+use Rattle.months.proofs.Dates.{by-test}
 use Rattle.months.proofs.LeapLast.{Shape, placed, tested-shape}
 use Rattle.months.proofs.GregorianKind.{OfKind}
 
@@ -44,16 +42,20 @@ bahai-kind = record { shape = bahai-shape; small = omega arith; first = refl; tu
 
 -- the length of a position
 abbrev pub bahaiLength : Bool → ℕ → ℕ
-bahaiLength t p = cond (eqb p 18) (cond t 5 4) 19
+bahaiLength t q = cond (eqb q 19) (4 + cond t 1 0) 19
 
-bahai-lengths : (t : Bool) → every (λ q. eqb (bahaiLength t q) (getD (nineteens t) q 0)) 20 ≡ true
+bahai-lengths : (t : Bool) → every (λ q. eqb (bahaiLength t q) (getD (fromLast t) q 0)) 20 ≡ true
 unfolding every
 bahai-lengths true = refl
 bahai-lengths false = refl
 
-pub bahai-length : (i p : ℕ) → p < 20 → bahaiLength (gregorianLong (6644 + i)) p ≡ lengthAt bahai i p
-bahai-length i p h =
-    let t = gregorianLong (6644 + i) in tested-length (years bahai) i p (nineteens t) (bahaiLength t) 20 (bahai-row i) h (bahai-lengths t)
+pub bahai-length : (t : Bool) (q : ℕ) → q < 20 → bahaiLength t q ≡ getD (fromLast t) q 0
+bahai-length t q h = by-test (bahaiLength t) (λ q. getD (fromLast t) q 0) 20 (bahai-lengths t) q h
+
+-- what code takes away is there
+pub bahai-room : (rest : ℕ) → rest < 366 → bahaiBefore (bahaiOf rest) ≤ rest
+unfolding total
+bahai-room rest h = bahai-shape .place true rest h .1
 
 -- ---- 15
 
@@ -77,17 +79,28 @@ pub saka-kind : OfKind saka fromSecond 12 sakaBefore sakaOf 4878 11 31993
 unfolding turnedBy yearsBy
 saka-kind = record { shape = saka-shape; small = omega arith; first = refl; turns = λ t i. sym (saka-row i) t }
 
-abbrev pub sakaLength : Bool → ℕ → ℕ
-sakaLength t p = cond (eqb p 0) (cond t 31 30) (cond (ltb p 6) 31 30)
+-- position p of the calendar's year, at position q of the year so counted: its length, and the days before it
+abbrev sakaPlace : ℕ → ℕ
+sakaPlace p = p + 11 - 12 * cond (ltb (p + 11) 12) 0 1
 
-saka-lengths : (t : Bool) → every (λ q. eqb (sakaLength t q) (getD (sakaMonths t) q 0)) 12 ≡ true
+saka-lengths : (t : Bool) → every (λ p. eqb (sakaLength t p) (getD (fromSecond t) (sakaPlace p) 0)) 12 ≡ true
 unfolding every
 saka-lengths true = refl
 saka-lengths false = refl
 
-pub saka-length : (i p : ℕ) → p < 12 → sakaLength (gregorianLong (4878 + i)) p ≡ lengthAt saka i p
-saka-length i p h =
-    let t = gregorianLong (4878 + i) in tested-length (years saka) i p (sakaMonths t) (sakaLength t) 12 (saka-row i) h (saka-lengths t)
+pub saka-length : (t : Bool) (p : ℕ) → p < 12 → sakaLength t p ≡ getD (fromSecond t) (p + 11 - 12 * cond (ltb (p + 11) 12) 0 1) 0
+saka-length t p h = by-test (sakaLength t) (λ p. getD (fromSecond t) (sakaPlace p) 0) 12 (saka-lengths t) p h
+
+-- 31 more than the days before
+abbrev sakaDays : ℕ → ℕ
+sakaDays p = 30 * p + cond (ltb p 6) p 6 + cond (eqb p 0) 366 0
+
+saka-befores : every (λ p. eqb (sakaDays p) (sakaBefore (sakaPlace p) + 31)) 12 ≡ true
+unfolding every
+saka-befores = refl
+
+pub saka-before : (p : ℕ) → p < 12 → 30 * p + cond (ltb p 6) p 6 + cond (eqb p 0) 366 0 ≡ sakaBefore (p + 11 - 12 * cond (ltb (p + 11) 12) 0 1) + 31
+saka-before p h = by-test sakaDays (λ p. sakaBefore (sakaPlace p) + 31) 12 saka-befores p h
 
 -- what code takes away is there
 pub saka-from-2 : (rest : ℕ) → 2 ≤ sakaMonth rest

@@ -8,8 +8,7 @@ use native.Mathlib.Decide.{decLt}
 use native.Mathlib.Nat.{dvd-mul-right}
 use native.Mathlib.Omega.{arith}
 use lib.Dec.{eqb}
-use borrow.Author.Tests.{eqb-true, eqb-false}
-use Rattle.basics.proofs.Cases.{same-eqb}
+use borrow.Author.Tests.{eqb-true, eqb-false, eq-eqb, ne-eqb}
 use Rattle.counting.specs.Calendar.{total, start}
 use Rattle.months.specs.Leap.{leapBy, leapsBelow, daysBelow, centuries, gregorianLong, gregorianStart, GregorianDay}
 use Rattle.months.proofs.Years.{flag}
@@ -31,25 +30,25 @@ in-words z = go (eqb (suc z % 4) 0) (eqb (suc z % 100) 0) (eqb (suc z % 400) 0) 
     go false b true e g = absurd (omega (arith, eqb-false (suc z % 4) 0 e, eqb-true (suc z % 400) 0 g))
     go false b false e g = refl
 
--- as code has it: the last test matters only where 100 divides
-pub long-by : (z a a′ b b′ d d′ : ℕ) → (a ≡ a′ → suc z % 4 ≡ 0) × (suc z % 4 ≡ 0 → a ≡ a′) → (b ≡ b′ → suc z % 100 ≡ 0) × (suc z % 100 ≡ 0 → b ≡ b′)
-    → (suc z % 100 ≡ 0 → (d ≡ d′ → suc z % 400 ≡ 0) × (suc z % 400 ≡ 0 → d ≡ d′))
-    → (eqb a a′ && (not (eqb b b′) || eqb d d′)) ≡ gregorianLong z
-long-by z a a′ b b′ d d′ p q r =
-    go (eqb a a′) (eqb b b′) (eqb d d′) (eqb (suc z % 4) 0) (eqb (suc z % 100) 0) (eqb (suc z % 400) 0) (same-eqb a a′ (suc z % 4) 0 (p .0) (p .1))
-    (same-eqb b b′ (suc z % 100) 0 (q .0) (q .1))
-    (λ h. let e = r (eqb-true (suc z % 100) 0 h) in same-eqb d d′ (suc z % 400) 0 (e .0) (e .1))
-    (λ h e. omega (arith, eqb-true (suc z % 400) 0 h, eqb-false (suc z % 4) 0 e))
-    (λ h e. omega (arith, eqb-true (suc z % 400) 0 h, eqb-false (suc z % 100) 0 e))
-    ∙ in-words z
-  where
-    go : (t u v t′ u′ v′ : Bool) → t ≡ t′ → u ≡ u′ → (u′ ≡ true → v ≡ v′) → (v′ ≡ true → t′ ≡ false → ⊥) → (v′ ≡ true → u′ ≡ false → ⊥)
-        → (t && (not u || v)) ≡ ((t′ && not u′) || v′)
-    go t u v true true v′ et eu ev nt nu = rw (et, eu, ev refl) refl
-    go t u v true false true et eu ev nt nu = absurd (nu refl refl)
-    go t u v true false false et eu ev nt nu = rw (et, eu) refl
-    go t u v false u′ true et eu ev nt nu = absurd (nt refl refl)
-    go t u v false u′ false et eu ev nt nu = rw et refl
+-- as a number that code works out, where a century is looked at by itself
+as-number : (t : Bool) (n : ℕ) → (t ≡ true → n ≡ 1) → (t ≡ false → n ≡ 0) → n ≡ cond t 1 0
+as-number true n f g = f refl
+as-number false n f g = g refl
+
+module _ (z n : ℕ) where
+  pub long-century : z % 100 ≡ 99 → (suc z % 400 ≡ 0 → n ≡ 1) → ((suc z % 400 ≡ 0 → ⊥) → n ≡ 0) → n ≡ cond (gregorianLong z) 1 0
+  long-century h f g =
+      rw (← in-words z, eq-eqb (suc z % 4) 0 (omega arith), eq-eqb (suc z % 100) 0 (omega arith))
+      (as-number (eqb (suc z % 400) 0) n (λ e. f (eqb-true (suc z % 400) 0 e)) (λ e. g (eqb-false (suc z % 400) 0 e)))
+
+  pub long-usual : (z % 100 ≡ 99 → ⊥) → (suc z % 4 ≡ 0 → n ≡ 1) → ((suc z % 4 ≡ 0 → ⊥) → n ≡ 0) → n ≡ cond (gregorianLong z) 1 0
+  long-usual h f g =
+      rw (← in-words z, ne-eqb (suc z % 100) 0 (λ e. h (omega arith)), ne-eqb (suc z % 400) 0 (λ e. h (omega arith)))
+      (usual (eqb (suc z % 4) 0) (λ e. f (eqb-true (suc z % 4) 0 e)) (λ e. g (eqb-false (suc z % 4) 0 e)))
+    where
+      usual : (t : Bool) → (t ≡ true → n ≡ 1) → (t ≡ false → n ≡ 0) → n ≡ cond ((t && true) || false) 1 0
+      usual true f g = f refl
+      usual false f g = g refl
 
 -- ---- the days before a year
 

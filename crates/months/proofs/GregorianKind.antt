@@ -14,7 +14,7 @@ use Rattle.counting.specs.Answers.{Calendar, years}
 use Rattle.months.specs.Lines.{turnedBy}
 use Rattle.months.specs.Leap.{yearsBy, gregorianLong, gregorianStart, GregorianDay}
 use Rattle.months.specs.Turned.{DateIn}
-use Rattle.months.specs.Parts.{lengthAt, MonthOf, DateIs}
+use Rattle.months.specs.Parts.{MonthOf, DateIs}
 use Rattle.months.proofs.Gregorian.{starts}
 use Rattle.months.proofs.LeapLast.{Shape, year-days, first-is, turned-positions, turned-at, turned-date}
 
@@ -41,7 +41,7 @@ module _ {K : Calendar} {positions : Bool → List ℕ} {count : ℕ} {before po
       ap (λ (M : ℕ → List ℕ). length (M i)) (sym (x .turns)) ∙ turned-positions (x .shape) gregorianLong gregorianStart from-0 z₀ k (x .small) i
 
   -- a position: the day that it begins on, and its length
-  pub kind-at : (i p : ℕ) → p < count → let w = cond {A = ℕ} (ltb (p + k) count) 0 1 in let z = z₀ + i + w in let q = p + k - count * w in
+  kind-at : (i p : ℕ) → p < count → let w = cond {A = ℕ} (ltb (p + k) count) 0 1 in let z = z₀ + i + w in let q = p + k - count * w in
       (K .firstDay + start (years K) i + total (take p (years K i)) + base ≡ gregorianStart z + before q)
       × (getD (years K i) p 0 ≡ getD (positions (gregorianLong z)) q 0)
   unfolding yearsBy
@@ -55,9 +55,9 @@ module _ {K : Calendar} {positions : Bool → List ℕ} {count : ℕ} {before po
       × (getD (M i) p 0 ≡ getD (positions (gregorianLong z)) q 0))
       (x .turns) (omega (arith, a .0, x .first, first-is (x .shape) gregorianLong gregorianStart from-0 z₀ k (x .small)), a .1)
 
-  pub kind-month : (i p days : ℕ) → p < count → days ≡ lengthAt K i p → let w = cond {A = ℕ} (ltb (p + k) count) 0 1 in
-      MonthOf K i p (gregorianStart (z₀ + i + w) + before (p + k - count * w) - base) days
-  kind-month i p days h d = let a = kind-at i p h in record { length-is = d; begins = λ j. omega (arith, a .0) }
+  pub kind-month : (i p days : ℕ) → p < count → let w = cond {A = ℕ} (ltb (p + k) count) 0 1 in let z = z₀ + i + w in let q = p + k - count * w in
+      days ≡ getD (positions (gregorianLong z)) q 0 → MonthOf K i p (gregorianStart z + before q - base) days
+  kind-month i p days h d = let a = kind-at i p h in record { length-is = d ∙ sym (a .1); begins = λ j. omega (arith, a .0) }
 
   -- the date of a day, given its year and day of the year
   pub kind-date : (F : ℤ) → yearAt F (suc z₀) ≡ K .firstYear → (day z rest : ℕ) (y : ℤ) (m d : ℕ) → K .firstDay ≤ day → GregorianDay (day + base) z rest

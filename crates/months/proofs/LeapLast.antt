@@ -1,7 +1,7 @@
 -- Years whose extra day is the last, over their positions and any rule of leap years, and the calendars whose years begin at position k of them, the first in
 -- year z₀: the days before a position, and the date of a day.
-use mathlib.Core.Path.{_≡_, sym, ap, _∙_}
-use mathlib.Core.Bool.{Bool, true, cond, _&&_}
+use mathlib.Core.Path.{_≡_, refl, sym, ap, _∙_}
+use mathlib.Core.Bool.{Bool, true, false, cond, _&&_}
 use mathlib.Core.List.{List}
 use Prim.Native.Nat.{ℕ, suc, _+_, _-_, _*_, _≤_, _<_}
 use native.Mathlib.Decide.{decLt}
@@ -53,6 +53,24 @@ module _ (positions : Bool → List ℕ) (count : ℕ) (before position : ℕ �
           let x = both (ltb q count) (leb (before q) rest && ltb (rest - before q) (getD (positions t) q 0)) h in
           let y = both (leb (before q) rest) (ltb (rest - before q) (getD (positions t) q 0)) (x .1) in
           (ltb-true q count (x .0), leb-true (before q) rest (y .0), ltb-true (rest - before q) (getD (positions t) q 0) (y .1))
+
+-- ---- the date of a day as code has it: q is the position, and t tells whether that is at the turn or after
+
+pub date-in : (count : ℕ) (before position : ℕ → ℕ) (F : ℤ) (turn z rest q : ℕ) (t : Bool) (a b : ℕ) (y : ℤ) (m d : ℕ) → q ≡ position rest
+    → (t ≡ true → (turn ≤ q) × (a ≡ q + 1 - turn)) → (t ≡ false → (q < turn) × (b ≡ q + (count + 1) - turn))
+    → y ≡ yearAt F (z + cond t 1 0) → m ≡ cond t a b → d ≡ rest - before q + 1 → DateIn count before position F turn z rest y m d
+date-in count before position F turn z rest q true a b y m d e l s ey em ed =
+    let x = l refl in
+    record { late = λ h. (ey, omega (arith, x)); soon = λ h. absurd (omega (arith, x)); day = ed ∙ ap (λ (k : ℕ). rest - before k + 1) e }
+date-in count before position F turn z rest q false a b y m d e l s ey em ed =
+    let x = s refl in
+    let f : z + 0 ≡ z = omega arith in
+    record {
+      late = λ h. absurd (omega (arith, x));
+      soon = λ h. (rw f at ey, omega (arith, x));
+      day = ed ∙ ap
+          (λ (k : ℕ). rest - before k + 1) e;
+    }
 
 -- ---- the calendars
 

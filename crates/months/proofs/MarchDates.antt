@@ -19,7 +19,7 @@ use Rattle.months.specs.Parts.{MonthIs, MonthOf, DateIs}
 use Rattle.months.proofs.Rows.{gregorian-row}
 use Rattle.months.proofs.LeapLast.{wrapped, first-is, turned-positions, turned-date}
 use Rattle.months.proofs.March.{march-shape, length-is, julian-start, julian-day, turned-month, macedonian-turns, syrian-turns, julian-turns}
-use Rattle.months.proofs.GregorianKind.{OfKind, kind-positions, kind-at, kind-date}
+use Rattle.months.proofs.GregorianKind.{OfKind, kind-positions, kind-month, kind-date}
 
 pub macedonian-years : julianYears 4489 6 ≡ years macedonian
 macedonian-years = λ t i. macedonian-turns i t
@@ -83,8 +83,7 @@ pub gregorian-month : (i p : ℕ) → p < 12
 unfolding yearsBy
 gregorian-month i p h =
     let w : ℕ = cond (ltb (p + 10) 12) 0 1 in
-    let x = kind-at gregorian-kind i p h in
-    record { length-is = length-is gregorianLong (87 + i + w) (p + 10 - 12 * w) (wrapped 12 p 10 h (omega arith) .1) ∙ sym (x .1); begins = λ j. omega (arith, x .0) }
+    kind-month gregorian-kind i p _ h (length-is gregorianLong (87 + i + w) (p + 10 - 12 * w) (wrapped 12 p 10 h (omega arith) .1))
 
 pub gregorian-date : (day z rest : ℕ) (y : ℤ) (m d : ℕ) → 38 ≤ day → GregorianDay (day + 32044) z rest → MarchDate (negsuc 4799) 10 z rest y m d
     → DateIs (years gregorian) (negsuc 4711) (day - 38) y m d

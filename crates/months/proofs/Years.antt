@@ -1,7 +1,7 @@
 -- The days before a year, and the year of a day, by division by constants: with no leap years, one in four, and 11 in 30. Over the positions of a year, and
 -- the phase.
 use mathlib.Core.Path.{_≡_, refl}
-use mathlib.Core.Bool.{Bool, true, false, cond}
+use mathlib.Core.Bool.{Bool, true, false, cond, not}
 use mathlib.Core.List.{List}
 use Prim.Native.Nat.{ℕ, _+_, _-_, _*_, _/_, _%_, _≤_, _<_}
 use native.Mathlib.Omega.{arith}
@@ -25,6 +25,10 @@ flag false = omega arith
 pub by-fours : (x : ℕ) → (x % 4 + 1) / 4 ≡ cond (eqb (x % 4) 3) 1 0
 by-fours x =
     cond-elim (λ (n : ℕ). (x % 4 + 1) / 4 ≡ n) (eqb (x % 4) 3) 1 0 (λ h. omega (arith, eqb-true (x % 4) 3 h)) (λ h. omega (arith, eqb-false (x % 4) 3 h))
+
+pub none-of : (t : Bool) → eqb (cond t 1 0) 0 ≡ not t
+none-of true = refl
+none-of false = refl
 
 -- and added to one
 pub one-more : (t : Bool) (a : ℕ) → a + cond t 1 0 ≡ cond t (a + 1) a

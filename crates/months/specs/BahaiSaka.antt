@@ -2,7 +2,7 @@
 use mathlib.Core.Bool.{Bool, cond}
 use mathlib.Core.List.{List, [], _∷_, _++_}
 use Prim.Native.Nat.{ℕ, _+_, _-_, _*_, _/_}
-use lib.Dec.{ltb}
+use lib.Dec.{eqb, ltb}
 use lib.ListN.{replicate}
 use Rattle.calendar_rules.specs.Calendars.{_or_}
 
@@ -13,8 +13,9 @@ fromLast leap = replicate 19 19 ++ (4 or 5) leap ∷ []
 abbrev pub bahaiBefore : ℕ → ℕ
 bahaiBefore q = 19 * q
 
+-- the position of a day, without division
 abbrev pub bahaiOf : ℕ → ℕ
-bahaiOf rest = rest / 19
+bahaiOf rest = 27 * rest / 512
 
 -- 5 of 31, 6 of 30, then 30 or 31
 abbrev pub fromSecond : Bool → List ℕ
@@ -29,3 +30,7 @@ sakaMonth rest = cond (ltb rest 155) (33 * rest + 2052) (34 * rest + 1922) / 102
 
 abbrev pub sakaOf : ℕ → ℕ
 sakaOf rest = sakaMonth rest - 2
+
+-- the length of position p of the calendar's year, by the year that it is counted in
+abbrev pub sakaLength : Bool → ℕ → ℕ
+sakaLength t p = cond (eqb p 0) (30 + cond t 1 0) (cond (ltb p 6) 31 30)

@@ -3,9 +3,33 @@
 // Positions are counted from 0.
 use parts::Month;
 use parts::Place;
+ghost use mathlib.Core.Bool.{cond};
 ghost use mathlib.Core.Path.{_≡_};
+ghost use Prim.Native.Nat.{_+_, _<_};
+ghost use lib.Dec.{ltb};
 ghost use Rattle.calendar_rules.specs.Calendars.{saka};
+ghost use Rattle.months.specs.BahaiSaka.{sakaLength};
+ghost use Rattle.months.specs.Leap.{gregorianLong};
 ghost use Rattle.months.specs.Parts.{lengthAt, MonthOf, PlaceOf};
+
+// The year so counted that position p of the year i years after the first is in.
+fn counted_year(i: u16, p: u64) -> u32
+    requires { ⌜ p < 12 ⌝ }
+    ensures { λ r. ⌜ r ≡ 4878 + i + cond (ltb (p + 11) 12) 0 1 ⌝ }
+{
+    let wrap = parts::pick(p + 11 < 12, 0, 1);
+    4878 + (i as u32) + (wrap as u32)
+}
+
+// The length of position p, in year z so counted.
+fn counted_length(z: u32, p: u64) -> u64
+    requires { ⌜ p < 12 ⌝ }
+    ensures { λ r. ⌜ r ≡ sakaLength (gregorianLong z) p ⌝ }
+{
+    let first = 30 + gregorian_years::extra_days(z);
+    let usual = parts::pick(p < 6, 31, 30);
+    parts::pick(p == 0, first, usual)
+}
 
 pub fn length_at(i: u16, p: u64) -> u64
     ensures { λ r. ⌜ r ≡ lengthAt saka i p ⌝ }
@@ -13,9 +37,7 @@ pub fn length_at(i: u16, p: u64) -> u64
     if 11 < p {
         return 0;
     }
-    let first = parts::pick(gregorian_years::is_long(4878 + (i as u32)), 31, 30);
-    let usual = parts::pick(p < 6, 31, 30);
-    parts::pick(p == 0, first, usual)
+    counted_length(counted_year(i, p), p)
 }
 
 // A position of the year that is i years after the first.
@@ -25,13 +47,12 @@ pub fn month_at(i: u16, p: u64) -> Month
     if 11 < p {
         return Month { start: 0, days: 0 };
     }
-    let wrap = parts::pick(p + 11 < 12, 0, 1);
-    let z = 4878 + (i as u32) + (wrap as u32);
-    let q = p + 11 - 12 * wrap;
-    let early = parts::pick(q < 5, q, 5);
+    let z = counted_year(i, p);
+    let early = parts::pick(p < 6, p, 6);
+    let first = parts::pick(p == 0, 366, 0);
     Month {
-        start: gregorian_years::year_start(z) + (30 * q + early) - 31993,
-        days: length_at(i, p),
+        start: gregorian_years::year_start(z) + (30 * p + early + first - 31) - 31993,
+        days: counted_length(z, p),
     }
 }
 
@@ -49,8 +70,6 @@ pub fn date_on(day: u32) -> Place
     let q = scaled / 1024 - 2;
     let early = parts::pick(q < 5, q, 5);
     let d = rest - (30 * q + early) + 1;
-    if q == 11 {
-        return parts::place_in(-4878, z + 1, 1, d);
-    }
-    parts::place_in(-4878, z, q + 2, d)
+    let wrap = parts::pick(q == 11, 1, 0);
+    parts::place_in(-4878, z + (wrap as u32), parts::pick(q == 11, 1, q + 2), d)
 }

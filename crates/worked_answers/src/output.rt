@@ -37,6 +37,8 @@ pub(crate) fn put_calendar(good: &mut bool, calendar: u64) {
         10 => put(good, b"Julian"),
         11 => put(good, b"Gregorian"),
         13 => put(good, b"Islamic B"),
+        14 => put(good, b"Bahai"),
+        15 => put(good, b"Saka"),
         18 => put(good, b"Hebrew"),
         _ => {
             put(good, b"calendar ");

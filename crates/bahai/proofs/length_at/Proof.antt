@@ -1,11 +1,11 @@
 -- `bahai::length_at` meets its contract.
 use native.Mathlib.Omega.{arith}
-use borrow.Author.Tests.{eq-eqb, ne-eqb}
 use Rattle.counting.specs.Answers.{years}
 use Rattle.calendar_rules.specs.Calendars.{bahai}
 use Rattle.months.proofs.Dates.{no-length}
-use Rattle.months.proofs.GregorianKind.{kind-positions}
-use Rattle.months.proofs.BahaiSaka.{bahai-kind, bahai-length}
+use Rattle.months.proofs.LeapLast.{wrapped}
+use Rattle.months.proofs.GregorianKind.{kind-positions, kind-month}
+use Rattle.months.proofs.BahaiSaka.{bahai-kind}
 use borrow.Author.Needs.{needs}
 use Rattle.bahai.proofs.length_at.Statement.{statement}
 use Rattle.bahai.proofs.length_at.Tie as tie
@@ -13,27 +13,51 @@ use Rattle.bahai.proofs.length_at.Tie as tie
 returns : tie.Need-returns
 returns c = let s = c .before in no-length (years bahai) (s .args .i) (s .args .p) (omega (arith, kind-positions bahai-kind (s .args .i)))
 
-returns-2 : tie.Need-returns-2
-returns-2 c =
-    let s = c .before .before in
-    rw (ne-eqb _ _ (c .if2 .taken)) at (bahai-length (s .args .i) (s .args .p) (omega arith))
-
-add-is-long : tie.Need-add-is-long
-add-is-long c = search needs
-
-is-long-requires : tie.Need-is-long-requires
-is-long-requires c κs = search needs
+add-pick : tie.Need-add-pick
+add-pick c = search needs
 
 pick-requires : tie.Need-pick-requires
 pick-requires c κs = search needs
 
-returns-3 : tie.Need-returns-3
-returns-3 c =
-    let l = c .before in
-    let e = l .before in
-    let s = e .before .before in
-    rw (c .pick .ensures .0, l .is-long .ensures) (rw (eq-eqb _ _ (e .if2 .left)) at (bahai-length (s .args .i) (s .args .p) (omega arith)))
+add-counted-length : tie.Need-add-counted-length
+add-counted-length c = search needs
+
+cast-counted-length : tie.Need-cast-counted-length
+cast-counted-length c = search needs
+
+add-counted-length-2 : tie.Need-add-counted-length-2
+add-counted-length-2 c = search needs
+
+add-counted-length-3 : tie.Need-add-counted-length-3
+add-counted-length-3 c = search needs
+
+mul-counted-length : tie.Need-mul-counted-length
+mul-counted-length c = search needs
+
+sub-counted-length : tie.Need-sub-counted-length
+sub-counted-length c = omega (arith, c .pick .ensures .0, wrapped 20 (c .before .before .args .p) 1 (omega arith) (omega arith))
+
+counted-length-requires : tie.Need-counted-length-requires
+counted-length-requires c κs = omega (arith, c .pick .ensures .0, wrapped 20 (c .before .before .args .p) 1 (omega arith) (omega arith))
+
+returns-2 : tie.Need-returns-2
+returns-2 c =
+    let w = c .before in
+    let s = w .before .before in
+    kind-month bahai-kind (s .args .i) (s .args .p) _ (omega arith) (rw (w .pick .ensures .0) at (c .counted-length .ensures)) .length-is
 
 pub length-at-spec : {M : Type 1} → statement M
 length-at-spec =
-    tie.close (tie.spec returns returns-2 add-is-long is-long-requires pick-requires returns-3)
+    tie.close
+    (tie.spec
+    returns
+    add-pick
+    pick-requires
+    add-counted-length
+    cast-counted-length
+    add-counted-length-2
+    add-counted-length-3
+    mul-counted-length
+    sub-counted-length
+    counted-length-requires
+    returns-2)

@@ -3,6 +3,7 @@ use native.Mathlib.Omega.{arith}
 use Rattle.counting.specs.Answers.{years}
 use Rattle.calendar_rules.specs.Calendars.{bahai}
 use Rattle.months.proofs.Dates.{no-month}
+use Rattle.months.proofs.Gregorian.{year-room}
 use Rattle.months.proofs.LeapLast.{wrapped}
 use Rattle.months.proofs.GregorianKind.{kind-positions, kind-month}
 use Rattle.months.proofs.BahaiSaka.{bahai-kind}
@@ -28,38 +29,39 @@ cast-z c = search needs
 add-z-2 : tie.Need-add-z-2
 add-z-2 c = search needs
 
+add-q : tie.Need-add-q
+add-q c = search needs
+
+mul-q : tie.Need-mul-q
+mul-q c = search needs
+
+sub-q : tie.Need-sub-q
+sub-q c = omega (arith, c .pick .ensures .0, wrapped 20 (c .before .before .args .p) 1 (omega arith) (omega arith))
+
 year-start-requires : tie.Need-year-start-requires
 year-start-requires c κs = search needs
-
-add-t10 : tie.Need-add-t10
-add-t10 c = search needs
 
 mul-t11 : tie.Need-mul-t11
 mul-t11 c = search needs
 
-sub-t12 : tie.Need-sub-t12
-sub-t12 c =
+add-t12 : tie.Need-add-t12
+add-t12 c = search needs
+
+sub-t13 : tie.Need-sub-t13
+sub-t13 c = search needs
+
+counted-length-requires : tie.Need-counted-length-requires
+counted-length-requires c κs =
     let w = c .before in
     omega (arith, w .pick .ensures .0, wrapped 20 (w .before .before .args .p) 1 (omega arith) (omega arith))
-
-mul-t13 : tie.Need-mul-t13
-mul-t13 c = search needs
-
-add-t14 : tie.Need-add-t14
-add-t14 c = search needs
-
-sub-t15 : tie.Need-sub-t15
-sub-t15 c = search needs
-
-length-at-requires : tie.Need-length-at-requires
-length-at-requires c κs = search needs
 
 returns-2 : tie.Need-returns-2
 returns-2 c =
     let y = c .before in
     let w = y .before in
     let s = w .before .before in
-    rw (y .year-start .ensures, w .pick .ensures .0) (kind-month bahai-kind (s .args .i) (s .args .p) _ (omega arith) (c .length-at .ensures))
+    rw (y .year-start .ensures, w .pick .ensures .0)
+    (kind-month bahai-kind (s .args .i) (s .args .p) _ (omega arith) (rw (w .pick .ensures .0) at (c .counted-length .ensures)))
 
 pub month-at-spec : {M : Type 1} → statement M
 month-at-spec =
@@ -71,12 +73,12 @@ month-at-spec =
     add-z
     cast-z
     add-z-2
+    add-q
+    mul-q
+    sub-q
     year-start-requires
-    add-t10
     mul-t11
-    sub-t12
-    mul-t13
-    add-t14
-    sub-t15
-    length-at-requires
+    add-t12
+    sub-t13
+    counted-length-requires
     returns-2)

@@ -1,10 +1,12 @@
 -- `march::gregorian_length` meets its contract.
-use Prim.Native.Nat.{_+_, _-_, _*_, _<_}
+use Prim.Native.Nat.{_+_}
 use native.Mathlib.Omega.{arith}
 use Rattle.counting.specs.Answers.{years}
 use Rattle.calendar_rules.specs.Calendars.{gregorian}
+use Rattle.months.specs.Leap.{gregorianLong}
+use Rattle.months.proofs.Years.{one-more}
 use Rattle.months.proofs.Dates.{no-length}
-use Rattle.months.proofs.MarchDates.{gregorian-positions, gregorian-month, february-most}
+use Rattle.months.proofs.MarchDates.{gregorian-positions, gregorian-month}
 use borrow.Author.Needs.{needs}
 use Rattle.march.proofs.gregorian_length.Statement.{statement}
 use Rattle.march.proofs.gregorian_length.Tie as tie
@@ -24,14 +26,14 @@ cast-z c = search needs
 add-z-2 : tie.Need-add-z-2
 add-z-2 c = search needs
 
-is-long-requires : tie.Need-is-long-requires
-is-long-requires c κs = search needs
-
-pick-requires : tie.Need-pick-requires
-pick-requires c κs = search needs
+extra-days-requires : tie.Need-extra-days-requires
+extra-days-requires c κs = search needs
 
 add-month-length : tie.Need-add-month-length
 add-month-length c = search needs
+
+add-month-length-2 : tie.Need-add-month-length-2
+add-month-length-2 c = search needs
 
 mul-month-length : tie.Need-mul-month-length
 mul-month-length c = search needs
@@ -40,16 +42,14 @@ sub-month-length : tie.Need-sub-month-length
 sub-month-length c = search needs
 
 month-length-requires : tie.Need-month-length-requires
-month-length-requires c κs =
-    let w = c .before .before in
-    let q : w .before .before .args .p + 10 - 12 * w .wraps .result < 12 = omega (arith, w .wraps .ensures) in
-    (rw (c .pick .ensures .0) (february-most (c .before .is-long .result)), q)
+month-length-requires c κs = search needs
 
 returns-2 : tie.Need-returns-2
 returns-2 c =
-    let w = c .before .before .before in
+    let x = c .before in
+    let w = x .before in
     let s = w .before .before in
-    rw (c .month-length .ensures, c .before .pick .ensures .0, c .before .before .is-long .ensures, w .wraps .ensures .0)
+    rw (c .month-length .ensures, x .extra-days .ensures .0, one-more (gregorianLong (87 + s .args .i + w .wraps .result)) 28, w .wraps .ensures .0)
     (gregorian-month (s .args .i) (s .args .p) (omega arith) .length-is)
 
 pub gregorian-length-spec : {M : Type 1} → statement M
@@ -61,9 +61,9 @@ gregorian-length-spec =
     add-z
     cast-z
     add-z-2
-    is-long-requires
-    pick-requires
+    extra-days-requires
     add-month-length
+    add-month-length-2
     mul-month-length
     sub-month-length
     month-length-requires

@@ -1,9 +1,9 @@
 -- `march::no_day` meets its contract.
-use mathlib.Core.Path.{sym, ap, _∙_}
-use mathlib.Core.Bool.{not}
+use mathlib.Core.Path.{sym, _∙_}
 use borrow.Author.Tests.{eqb-false, leb-true, not-true}
 use Rattle.basics.proofs.Cases.{both}
 use Rattle.months.specs.Leap.{gregorianLong}
+use Rattle.months.proofs.Years.{none-of}
 use Rattle.months.proofs.MarchDates.{has-day, lacks-day, leap-day}
 use borrow.Author.Needs.{needs}
 use Rattle.march.proofs.no_day.Statement.{statement}
@@ -30,15 +30,16 @@ returns-2 c =
     let s = e .before .before in
     sym (lacks-day (s .args .q) (s .args .day) (gregorianLong (s .args .z)) (rw (e .before .pick .ensures .0) at (e .if1 .left)) (c .if2 .taken))
 
-is-long-requires : tie.Need-is-long-requires
-is-long-requires c κs = search needs
+extra-days-requires : tie.Need-extra-days-requires
+extra-days-requires c κs = search needs
 
 returns-3 : tie.Need-returns-3
 returns-3 c =
     let s = c .before .before .before .before in
-    ap not (c .is-long .ensures) ∙ sym (leap-day (s .args .q) (s .args .day) (gregorianLong (s .args .z)) (c .before .if2 .left))
+    rw (c .extra-days .ensures .0)
+    (none-of (gregorianLong (s .args .z)) ∙ sym (leap-day (s .args .q) (s .args .day) (gregorianLong (s .args .z)) (c .before .if2 .left)))
 
 pub no-day-spec : {M : Type 1} → statement M
 no-day-spec =
     tie.close
-    (tie.spec shr-pick add-pick pick-requires returns returns-2 is-long-requires returns-3)
+    (tie.spec shr-pick add-pick pick-requires returns returns-2 extra-days-requires returns-3)
