@@ -91,16 +91,18 @@ saka-lengths false = refl
 pub saka-length : (t : Bool) (p : ℕ) → p < 12 → sakaLength t p ≡ getD (fromSecond t) (p + 11 - 12 * cond (ltb (p + 11) 12) 0 1) 0
 saka-length t p h = by-test (sakaLength t) (λ p. getD (fromSecond t) (sakaPlace p) 0) 12 (saka-lengths t) p h
 
--- 31 more than the days before
-abbrev sakaDays : ℕ → ℕ
-sakaDays p = 30 * p + cond (ltb p 6) p 6 + cond (eqb p 0) 366 0
+-- the days before it, where the first position is counted as the twelfth after itself
+abbrev sakaTurned : ℕ → ℕ
+sakaTurned p = cond (eqb p 0) 12 p
 
-saka-befores : every (λ p. eqb (sakaDays p) (sakaBefore (sakaPlace p) + 31)) 12 ≡ true
+saka-befores : every (λ p. eqb (30 * sakaTurned p + cond (ltb (sakaTurned p) 6) (sakaTurned p) 6) (sakaBefore (sakaPlace p) + 31)) 12 ≡ true
 unfolding every
 saka-befores = refl
 
-pub saka-before : (p : ℕ) → p < 12 → 30 * p + cond (ltb p 6) p 6 + cond (eqb p 0) 366 0 ≡ sakaBefore (p + 11 - 12 * cond (ltb (p + 11) 12) 0 1) + 31
-saka-before p h = by-test sakaDays (λ p. sakaBefore (sakaPlace p) + 31) 12 saka-befores p h
+pub saka-before : (p : ℕ) → p < 12
+    → let m = cond {A = ℕ} (eqb p 0) 12 p in 30 * m + cond (ltb m 6) m 6 ≡ sakaBefore (p + 11 - 12 * cond (ltb (p + 11) 12) 0 1) + 31
+saka-before p h =
+    by-test (λ p. 30 * sakaTurned p + cond (ltb (sakaTurned p) 6) (sakaTurned p) 6) (λ p. sakaBefore (sakaPlace p) + 31) 12 saka-befores p h
 
 -- what code takes away is there
 pub saka-from-2 : (rest : ℕ) → 2 ≤ sakaMonth rest

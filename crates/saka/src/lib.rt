@@ -48,10 +48,10 @@ pub fn month_at(i: u16, p: u64) -> Month
         return Month { start: 0, days: 0 };
     }
     let z = counted_year(i, p);
-    let early = parts::pick(p < 6, p, 6);
-    let first = parts::pick(p == 0, 366, 0);
+    let m = parts::pick(p == 0, 12, p);
+    let early = parts::pick(m < 6, m, 6);
     Month {
-        start: gregorian_years::year_start(z) + (30 * p + early + first - 31) - 31993,
+        start: gregorian_years::year_start(z) + (30 * m + early - 31) - 31993,
         days: counted_length(z, p),
     }
 }

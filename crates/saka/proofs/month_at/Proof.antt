@@ -2,14 +2,13 @@
 use mathlib.Core.Path.{_≡_, _∙_}
 use mathlib.Core.Bool.{cond}
 use Prim.Native.Nat.{_+_, _-_, _*_}
-use lib.Dec.{ltb}
 use native.Mathlib.Omega.{arith}
+use lib.Dec.{ltb}
 use Rattle.counting.specs.Answers.{years}
 use Rattle.calendar_rules.specs.Calendars.{saka}
 use Rattle.months.specs.Leap.{gregorianLong}
 use Rattle.months.specs.BahaiSaka.{sakaBefore}
 use Rattle.months.proofs.Dates.{no-month}
-use Rattle.months.proofs.Gregorian.{year-room}
 use Rattle.months.proofs.GregorianKind.{kind-positions, kind-month}
 use Rattle.months.proofs.BahaiSaka.{saka-kind, saka-before, saka-length}
 use borrow.Author.Needs.{needs}
@@ -37,20 +36,17 @@ mul-t8 c = search needs
 add-t9 : tie.Need-add-t9
 add-t9 c = search needs
 
-add-t10 : tie.Need-add-t10
-add-t10 c = search needs
-
-sub-t11 : tie.Need-sub-t11
-sub-t11 c =
+sub-t10 : tie.Need-sub-t10
+sub-t10 c =
     let f = c .before in
     let e = f .before in
-    omega (arith, f .pick2 .ensures .0, e .pick .ensures .0, saka-before (e .before .before .before .args .p) (omega arith))
+    omega (arith, f .pick2 .ensures .0, rw (← e .pick .ensures .0) at (saka-before (e .before .before .before .args .p) (omega arith)))
 
-add-t12 : tie.Need-add-t12
-add-t12 c = search needs
+add-t11 : tie.Need-add-t11
+add-t11 c = search needs
 
-sub-t13 : tie.Need-sub-t13
-sub-t13 c = rw (c .year-start .ensures) (year-room _ _ 31993 (omega (arith, c .before .before .before .counted-year .ensures)))
+sub-t12 : tie.Need-sub-t12
+sub-t12 c = search needs
 
 counted-length-requires : tie.Need-counted-length-requires
 counted-length-requires c κs = search needs
@@ -63,8 +59,8 @@ returns-2 c =
     let y = e .before in
     let s = y .before .before in
     let p = s .args .p in
-    let b : 30 * p + e .pick .result + f .pick2 .result - 31 ≡ sakaBefore (p + 11 - 12 * cond (ltb (p + 11) 12) 0 1) =
-    omega (arith, f .pick2 .ensures .0, e .pick .ensures .0, saka-before p (omega arith)) in
+    let b : 30 * e .pick .result + f .pick2 .result - 31 ≡ sakaBefore (p + 11 - 12 * cond (ltb (p + 11) 12) 0 1) =
+    omega (arith, f .pick2 .ensures .0, rw (← e .pick .ensures .0) at (saka-before p (omega arith))) in
     rw (g .year-start .ensures, b, y .counted-year .ensures)
     (kind-month saka-kind (s .args .i) p _ (omega arith)
     (rw (y .counted-year .ensures) at (c .counted-length .ensures ∙ saka-length (gregorianLong (y .counted-year .result)) p (omega arith))))
@@ -80,9 +76,8 @@ month-at-spec =
     year-start-requires
     mul-t8
     add-t9
-    add-t10
-    sub-t11
-    add-t12
-    sub-t13
+    sub-t10
+    add-t11
+    sub-t12
     counted-length-requires
     returns-2)
