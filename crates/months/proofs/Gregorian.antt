@@ -1,6 +1,6 @@
 -- The Gregorian kind: a year in four, unless in a hundred, unless in four hundred. Years are counted from -4800, which is divisible by 400, so that the extra
 -- day of year z falls in the Gregorian year z + 1: the days before a year from three quotients, over the offset p of the first year, and the year of a day.
-use mathlib.Core.Path.{_≡_, refl, _∙_}
+use mathlib.Core.Path.{_≡_, refl}
 use mathlib.Core.Bool.{Bool, true, false, cond, not, _&&_, _||_}
 use mathlib.Core.List.{List}
 use Prim.Native.Nat.{ℕ, zero, suc, _+_, _-_, _*_, _/_, _%_, _≤_, _<_}
@@ -108,7 +108,3 @@ module _
 -- both are small
 pub year-small : {n z rest : ℕ} → GregorianDay n z rest → (365 * z ≤ n) × (rest ≤ 365)
 year-small {n} {z} {rest} g = (omega (arith, g .here), omega (arith, g .still, flag (gregorianLong z)))
-
--- what code takes away is there
-pub year-room : (z r base : ℕ) → base ≤ 365 * z → base ≤ gregorianStart z + r
-year-room z r base h = omega arith

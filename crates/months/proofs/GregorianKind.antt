@@ -55,9 +55,10 @@ module _ {K : Calendar} {positions : Bool → List ℕ} {count : ℕ} {before po
       × (getD (M i) p 0 ≡ getD (positions (gregorianLong z)) q 0))
       (x .turns) (omega (arith, a .0, x .first, first-is (x .shape) gregorianLong gregorianStart from-0 z₀ k (x .small)), a .1)
 
-  pub kind-month : (i p days : ℕ) → p < count → let w = cond {A = ℕ} (ltb (p + k) count) 0 1 in let z = z₀ + i + w in let q = p + k - count * w in
-      days ≡ getD (positions (gregorianLong z)) q 0 → MonthOf K i p (gregorianStart z + before q - base) days
-  kind-month i p days h d = let a = kind-at i p h in record { length-is = d ∙ sym (a .1); begins = λ j. omega (arith, a .0) }
+  pub kind-month : (i p begin days S B : ℕ) → p < count → begin ≡ S + B - base
+      → let w = cond {A = ℕ} (ltb (p + k) count) 0 1 in let z = z₀ + i + w in let q = p + k - count * w in
+      S ≡ gregorianStart z → B ≡ before q → days ≡ getD (positions (gregorianLong z)) q 0 → MonthOf K i p begin days
+  kind-month i p begin days S B h e es eb d = let a = kind-at i p h in record { length-is = d ∙ sym (a .1); begins = λ j. omega (arith, a .0) }
 
   -- the date of a day, given its year and day of the year
   pub kind-date : (F : ℤ) → yearAt F (suc z₀) ≡ K .firstYear → (day z rest : ℕ) (y : ℤ) (m d : ℕ) → K .firstDay ≤ day → GregorianDay (day + base) z rest

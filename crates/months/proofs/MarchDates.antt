@@ -1,5 +1,5 @@
 -- The calendars that count from March, 8 to 11, by the formulas that code works out.
-use mathlib.Core.Path.{_≡_, refl, sym, ap, subst, _∙_}
+use mathlib.Core.Path.{_≡_, refl, sym, subst}
 use mathlib.Core.Bool.{Bool, true, false, cond, not, _&&_, _||_, true≢false}
 use mathlib.Core.List.{List}
 use Prim.Native.Nat.{ℕ, suc, _+_, _-_, _*_, _/_, _%_, _^_, _≤_, _<_}
@@ -83,7 +83,7 @@ pub gregorian-month : (i p : ℕ) → p < 12
 unfolding yearsBy
 gregorian-month i p h =
     let w : ℕ = cond (ltb (p + 10) 12) 0 1 in
-    kind-month gregorian-kind i p _ h (length-is gregorianLong (87 + i + w) (p + 10 - 12 * w) (wrapped 12 p 10 h (omega arith) .1))
+    kind-month gregorian-kind i p _ _ _ _ h refl refl refl (length-is gregorianLong (87 + i + w) (p + 10 - 12 * w) (wrapped 12 p 10 h (omega arith) .1))
 
 pub gregorian-date : (day z rest : ℕ) (y : ℤ) (m d : ℕ) → 38 ≤ day → GregorianDay (day + 32044) z rest → MarchDate (negsuc 4799) 10 z rest y m d
     → DateIs (years gregorian) (negsuc 4711) (day - 38) y m d
@@ -157,8 +157,3 @@ gregorian-has i p h =
 -- and those before a year, by one division
 pub years-by-4 : (z : ℕ) → 1461 * z / 4 ≡ 365 * z + z / 4
 years-by-4 z = omega arith
-
--- February
-pub february-most : (long : Bool) → cond {A = ℕ} long 29 28 ≤ 29
-february-most true = omega arith
-february-most false = omega arith

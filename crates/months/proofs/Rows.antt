@@ -18,12 +18,9 @@ use Rattle.months.proofs.Gregorian.{in-words}
 
 -- ---- leap years by the years from the first
 
--- remainder r by 4 in years from 1 on
-from-1 : (r p i : ℕ) → ((1 + i) % 4 ≡ r → (i + p) % 4 ≡ 3) → ((i + p) % 4 ≡ 3 → (1 + i) % 4 ≡ r) → remainder r 4 (yearAt (pos 1) i) ≡ fourthLeap p i
-from-1 r p i f g = same-eqb ((1 + i) % 4) r ((i + p) % 4) 3 f g
-
+-- remainder 3 by 4 in years from 1 on
 threes : (i : ℕ) → remainder 3 4 (yearAt (pos 1) i) ≡ fourthLeap 1 i
-threes i = from-1 3 1 i (omega arith) (omega arith)
+threes i = same-eqb ((1 + i) % 4) 3 ((i + 1) % 4) 3 (omega arith) (omega arith)
 
 -- remainder 0 by 4 from -4712 on, which is divisible by 4
 divisible : (i : ℕ) → remainder 0 4 (yearAt (negsuc 4711) i) ≡ fourthLeap 3 i

@@ -4,21 +4,20 @@ use mathlib.Core.Bool.{Bool, true, false, cond, _&&_}
 use mathlib.Core.List.{List}
 use Prim.Native.Nat.{ℕ, _+_, _-_, _*_, _/_, _%_, _≤_, _<_}
 use native.Mathlib.Omega.{arith}
-use lib.Dec.{eqb, leb, ltb}
+use lib.Dec.{eqb, ltb}
 use lib.IntN.{ℤ, pos}
 use lib.ListN.{length, take, getD}
-use borrow.Author.Tests.{eqb-true, eqb-false, ltb-true, ltb-false}
+use borrow.Author.Tests.{eqb-true, ltb-true}
 use Rattle.basics.specs.Every.{every}
 use Rattle.basics.proofs.Cases.{both, cond-elim}
 use Rattle.basics.proofs.Every.{every-at}
 use Rattle.counting.specs.Calendar.{total, start}
 use Rattle.counting.specs.Years.{yearAt}
 use Rattle.counting.specs.Answers.{years}
-use Rattle.calendar_rules.specs.Calendars.{fiveAt9, nineteens, sakaMonths, persian, bahai, saka}
-use Rattle.months.specs.Leap.{Common, fourthLeap}
+use Rattle.calendar_rules.specs.Calendars.{fiveAt9, persian}
 use Rattle.months.specs.Parts.{MonthIs, MonthOf, DateIs, lengthAt}
-use Rattle.months.proofs.Years.{plain-start, fourth-start, fourth-in, days-by}
-use Rattle.months.proofs.Rows.{persian-row, bahai-row, saka-row}
+use Rattle.months.proofs.Years.{plain-start}
+use Rattle.months.proofs.Rows.{persian-row}
 use Rattle.months.proofs.Dates.{date-parts, by-test}
 
 -- day e of position p is day r of the year

@@ -56,7 +56,7 @@ pub fn month_at(i: u16, p: u64) -> Month
     }
 }
 
-// The date of a day. The month without division, from 2 to 13, which is the first of the next year.
+// The date of a day: its position without division, as a number of 1024ths and two more, so that none is below 0.
 pub fn date_on(day: u32) -> Place
     ensures { λ r. ⌜ PlaceOf saka day (r .year) (r .month) (r .day) ⌝ }
 {

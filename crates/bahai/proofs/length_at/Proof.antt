@@ -1,4 +1,5 @@
 -- `bahai::length_at` meets its contract.
+use mathlib.Core.Path.{refl}
 use native.Mathlib.Omega.{arith}
 use Rattle.counting.specs.Answers.{years}
 use Rattle.calendar_rules.specs.Calendars.{bahai}
@@ -44,7 +45,7 @@ returns-2 : tie.Need-returns-2
 returns-2 c =
     let w = c .before in
     let s = w .before .before in
-    kind-month bahai-kind (s .args .i) (s .args .p) _ (omega arith) (rw (w .pick .ensures .0) at (c .counted-length .ensures)) .length-is
+    kind-month bahai-kind (s .args .i) (s .args .p) _ _ _ _ (omega arith) refl refl refl (rw (w .pick .ensures .0) at (c .counted-length .ensures)) .length-is
 
 pub length-at-spec : {M : Type 1} → statement M
 length-at-spec =

@@ -1,9 +1,9 @@
 -- `bahai::month_at` meets its contract.
+use mathlib.Core.Path.{refl}
 use native.Mathlib.Omega.{arith}
 use Rattle.counting.specs.Answers.{years}
 use Rattle.calendar_rules.specs.Calendars.{bahai}
 use Rattle.months.proofs.Dates.{no-month}
-use Rattle.months.proofs.Gregorian.{year-room}
 use Rattle.months.proofs.LeapLast.{wrapped}
 use Rattle.months.proofs.GregorianKind.{kind-positions, kind-month}
 use Rattle.months.proofs.BahaiSaka.{bahai-kind}
@@ -60,8 +60,8 @@ returns-2 c =
     let y = c .before in
     let w = y .before in
     let s = w .before .before in
-    rw (y .year-start .ensures, w .pick .ensures .0)
-    (kind-month bahai-kind (s .args .i) (s .args .p) _ (omega arith) (rw (w .pick .ensures .0) at (c .counted-length .ensures)))
+    kind-month bahai-kind (s .args .i) (s .args .p) _ _ (y .year-start .result) _ (omega arith) refl (rw (w .pick .ensures .0) at (y .year-start .ensures))
+    (omega (arith, w .pick .ensures .0)) (rw (w .pick .ensures .0) at (c .counted-length .ensures))
 
 pub month-at-spec : {M : Type 1} → statement M
 month-at-spec =

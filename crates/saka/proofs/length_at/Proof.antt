@@ -1,6 +1,6 @@
 -- `saka::length_at` meets its contract.
 use native.Mathlib.Omega.{arith}
-use mathlib.Core.Path.{_∙_}
+use mathlib.Core.Path.{refl, _∙_}
 use Rattle.counting.specs.Answers.{years}
 use Rattle.calendar_rules.specs.Calendars.{saka}
 use Rattle.months.specs.Leap.{gregorianLong}
@@ -24,7 +24,7 @@ returns-2 : tie.Need-returns-2
 returns-2 c =
     let y = c .before in
     let s = y .before .before in
-    kind-month saka-kind (s .args .i) (s .args .p) _ (omega arith)
+    kind-month saka-kind (s .args .i) (s .args .p) _ _ _ _ (omega arith) refl refl refl
     (rw (y .counted-year .ensures) at (c .counted-length .ensures ∙ saka-length (gregorianLong (y .counted-year .result)) (s .args .p) (omega arith))) .length-is
 
 pub length-at-spec : {M : Type 1} → statement M

@@ -1,13 +1,9 @@
 -- `saka::month_at` meets its contract.
-use mathlib.Core.Path.{_≡_, _∙_}
-use mathlib.Core.Bool.{cond}
-use Prim.Native.Nat.{_+_, _-_, _*_}
+use mathlib.Core.Path.{refl, _∙_}
 use native.Mathlib.Omega.{arith}
-use lib.Dec.{ltb}
 use Rattle.counting.specs.Answers.{years}
 use Rattle.calendar_rules.specs.Calendars.{saka}
 use Rattle.months.specs.Leap.{gregorianLong}
-use Rattle.months.specs.BahaiSaka.{sakaBefore}
 use Rattle.months.proofs.Dates.{no-month}
 use Rattle.months.proofs.GregorianKind.{kind-positions, kind-month}
 use Rattle.months.proofs.BahaiSaka.{saka-kind, saka-before, saka-length}
@@ -59,11 +55,9 @@ returns-2 c =
     let y = e .before in
     let s = y .before .before in
     let p = s .args .p in
-    let b : 30 * e .pick .result + f .pick2 .result - 31 ≡ sakaBefore (p + 11 - 12 * cond (ltb (p + 11) 12) 0 1) =
-    omega (arith, f .pick2 .ensures .0, rw (← e .pick .ensures .0) at (saka-before p (omega arith))) in
-    rw (g .year-start .ensures, b, y .counted-year .ensures)
-    (kind-month saka-kind (s .args .i) p _ (omega arith)
-    (rw (y .counted-year .ensures) at (c .counted-length .ensures ∙ saka-length (gregorianLong (y .counted-year .result)) p (omega arith))))
+    kind-month saka-kind (s .args .i) p _ _ (g .year-start .result) _ (omega arith) refl (rw (y .counted-year .ensures) at (g .year-start .ensures))
+    (omega (arith, f .pick2 .ensures .0, rw (← e .pick .ensures .0) at (saka-before p (omega arith))))
+    (rw (y .counted-year .ensures) at (c .counted-length .ensures ∙ saka-length (gregorianLong (y .counted-year .result)) p (omega arith)))
 
 pub month-at-spec : {M : Type 1} → statement M
 month-at-spec =
