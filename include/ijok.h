@@ -42,6 +42,9 @@ extern "C" {
  *     14    Bahai                         1     2394647
  *     15    Saka                          1     1749995
  *     18    Hebrew                        1      347998
+ *
+ * Leap years of 14 and 15 are by the Gregorian rule, in years Y + 1844 and Y + 78: Bahai years begin on 21 March of the Gregorian calendar, Saka years on
+ * 22 March or, where they are leap, on 21 March.
  */
 enum ijok_calendar {
     IJOK_EGYPTIAN = 1,

@@ -62,7 +62,7 @@ from-january z =
     sums : (z a b d a′ b′ d′ : ℕ) → a′ ≡ a + 1 → b′ ≡ b + 1 → d′ ≡ d + 1 → b ≤ z → b ≤ a → d ≤ b → 365 * suc z + (a′ - (b′ - (d′ - 0))) ≡ 365 * z + a - b + d + 366
     sums z a b d a′ b′ d′ i j k l m o = omega arith
 
-next-start : (z : ℕ) → gregorianStart (suc z) ≡ gregorianStart z + (365 + cond (gregorianLong z) 1 0)
+pub next-start : (z : ℕ) → gregorianStart (suc z) ≡ gregorianStart z + (365 + cond (gregorianLong z) 1 0)
 unfolding gregorianLong
 next-start z = omega (arith, B.days-step centuries chain (suc z), from-january z, from-january (suc z))
 

@@ -41,7 +41,7 @@ module _ {K : Calendar} {positions : Bool → List ℕ} {count : ℕ} {before po
       ap (λ (M : ℕ → List ℕ). length (M i)) (sym (x .turns)) ∙ turned-positions (x .shape) gregorianLong gregorianStart from-0 z₀ k (x .small) i
 
   -- a position: the day that it begins on, and its length
-  kind-at : (i p : ℕ) → p < count → let w = cond {A = ℕ} (ltb (p + k) count) 0 1 in let z = z₀ + i + w in let q = p + k - count * w in
+  pub kind-at : (i p : ℕ) → p < count → let w = cond {A = ℕ} (ltb (p + k) count) 0 1 in let z = z₀ + i + w in let q = p + k - count * w in
       (K .firstDay + start (years K) i + total (take p (years K i)) + base ≡ gregorianStart z + before q)
       × (getD (years K i) p 0 ≡ getD (positions (gregorianLong z)) q 0)
   unfolding yearsBy

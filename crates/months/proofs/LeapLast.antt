@@ -61,16 +61,13 @@ pub date-in : (count : ℕ) (before position : ℕ → ℕ) (F : ℤ) (turn z re
     → y ≡ yearAt F (z + cond t 1 0) → m ≡ cond t a b → d ≡ rest - before q + 1 → DateIn count before position F turn z rest y m d
 date-in count before position F turn z rest q true a b y m d e l s ey em ed =
     let x = l refl in
-    record { late = λ h. (ey, omega (arith, x)); soon = λ h. absurd (omega (arith, x)); day = ed ∙ ap (λ (k : ℕ). rest - before k + 1) e }
+    let g = ed ∙ ap (λ (k : ℕ). rest - before k + 1) e in
+    record { late = λ h. (ey, omega (arith, x)); soon = λ h. absurd (omega (arith, x)); day = g }
 date-in count before position F turn z rest q false a b y m d e l s ey em ed =
     let x = s refl in
     let f : z + 0 ≡ z = omega arith in
-    record {
-      late = λ h. absurd (omega (arith, x));
-      soon = λ h. (rw f at ey, omega (arith, x));
-      day = ed ∙ ap
-          (λ (k : ℕ). rest - before k + 1) e;
-    }
+    let g = ed ∙ ap (λ (k : ℕ). rest - before k + 1) e in
+    record { late = λ h. absurd (omega (arith, x)); soon = λ h. (rw f at ey, omega (arith, x)); day = g }
 
 -- ---- the calendars
 

@@ -16,4 +16,5 @@ pub mod March
 pub mod MarchDates
 pub mod HebrewGates
 pub mod Hebrew
+pub mod NewYears
 pub mod Claims

@@ -70,7 +70,7 @@ module _ (day : ℕ) (y : ℤ) (m d : ℕ) where
 
 -- ---- Gregorian
 
-gregorian-kind : OfKind gregorian fromMarch 12 marchBefore marchOf 87 10 32044
+pub gregorian-kind : OfKind gregorian fromMarch 12 marchBefore marchOf 87 10 32044
 unfolding turnedBy yearsBy
 gregorian-kind = record { shape = march-shape; small = omega arith; first = refl; turns = λ t i. sym (gregorian-row i) t }
 

@@ -38,7 +38,7 @@ from-4712 i = by-rests (yearAt (negsuc 4711) i) (87 + i) (after 1200 4 (omega ar
     after q b h e = let s : i + 88 ≡ suc (87 + i) = omega arith in mod-after 4711 88 q b i h e ∙ ap (λ (x : ℕ). x % b) s
 
 -- from year 1 on, where k is added to the year
-from-year-1 : (k i : ℕ) → gregorianLeap (yearAt (pos 1) i +ℤ pos k) ≡ gregorianLong (k + 4800 + i)
+pub from-year-1 : (k i : ℕ) → gregorianLeap (yearAt (pos 1) i +ℤ pos k) ≡ gregorianLong (k + 4800 + i)
 from-year-1 k i =
     by-rests (yearAt (pos 1) i +ℤ pos k) (k + 4800 + i) (rest 4 (omega arith)) (rest 100 (omega arith)) (rest 400 (omega arith))
   where

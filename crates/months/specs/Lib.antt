@@ -1,4 +1,5 @@
 pub mod Lines
+pub mod NewYears
 pub mod Leap
 pub mod Parts
 pub mod Turned
