@@ -4,7 +4,7 @@ use mathlib.Core.Bool.{Bool, true, false, cond}
 use Prim.Native.Nat.{ℕ, _+_, _-_, _*_, _/_, _≤_, _<_}
 use native.Mathlib.Omega.{arith}
 use lib.Dec.{eqb, ltb}
-use lib.ListN.{take, getD}
+use lib.ListN.{getD}
 use borrow.Author.Tests.{ltb-false}
 use Rattle.basics.specs.Every.{every}
 use Rattle.basics.proofs.Cases.{cond-elim}
@@ -15,26 +15,14 @@ use Rattle.months.specs.Leap.{yearsBy}
 use Rattle.months.specs.BahaiSaka.{fromLast, bahaiBefore, bahaiOf, fromSecond, sakaBefore, sakaMonth, sakaOf, sakaLength}
 use Rattle.months.proofs.Rows.{bahai-row, saka-row}
 use Rattle.months.proofs.Dates.{by-test}
-use Rattle.months.proofs.LeapLast.{Shape, placed, tested-shape}
+use Rattle.months.proofs.LeapLast.{Shape, tested-shape}
 use Rattle.months.proofs.GregorianKind.{OfKind}
 
 -- ---- 14
 
 bahai-shape : Shape fromLast 20 bahaiBefore bahaiOf
 unfolding total every
-bahai-shape = tested-shape fromLast 20 bahaiBefore bahaiOf (λ t. refl) days before position
-  where
-    days : (t : Bool) → total (fromLast t) ≡ 365 + cond t 1 0
-    days true = refl
-    days false = refl
-
-    before : (t : Bool) → every (λ q. eqb (total (take q (fromLast t))) (bahaiBefore q)) 20 ≡ true
-    before true = refl
-    before false = refl
-
-    position : (t : Bool) → every (λ r. placed (fromLast t) 20 bahaiBefore (bahaiOf r) r) (365 + cond t 1 0) ≡ true
-    position true = refl
-    position false = refl
+bahai-shape = tested-shape fromLast 20 bahaiBefore bahaiOf refl refl
 
 pub bahai-kind : OfKind bahai fromLast 20 bahaiBefore bahaiOf 6644 1 32043
 unfolding turnedBy yearsBy
@@ -61,19 +49,7 @@ bahai-room rest h = bahai-shape .place true rest h .1
 
 pub saka-shape : Shape fromSecond 12 sakaBefore sakaOf
 unfolding total every
-saka-shape = tested-shape fromSecond 12 sakaBefore sakaOf (λ t. refl) days before position
-  where
-    days : (t : Bool) → total (fromSecond t) ≡ 365 + cond t 1 0
-    days true = refl
-    days false = refl
-
-    before : (t : Bool) → every (λ q. eqb (total (take q (fromSecond t))) (sakaBefore q)) 12 ≡ true
-    before true = refl
-    before false = refl
-
-    position : (t : Bool) → every (λ r. placed (fromSecond t) 12 sakaBefore (sakaOf r) r) (365 + cond t 1 0) ≡ true
-    position true = refl
-    position false = refl
+saka-shape = tested-shape fromSecond 12 sakaBefore sakaOf refl refl
 
 pub saka-kind : OfKind saka fromSecond 12 sakaBefore sakaOf 4878 11 31993
 unfolding turnedBy yearsBy

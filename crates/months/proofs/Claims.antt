@@ -1,6 +1,7 @@
--- What is shown of months by a line, and of the years that the Gregorian rule keeps in step, on one page. It rests on specs/Lines.antt, which names each line beside its calendars (`byLines`) and says what it is to
--- yield a year's lengths before the last (`Yields`, by `Generates` of crate lines) and to find the position of every day of every year (`Finds`, by the
--- `quotient` of the day, held to the last position); and on the calendars' rows and years (crates calendar_rules and counting).
+-- What is shown of months by a line, and of the years that the Gregorian rule keeps in step, on one page. It rests on specs/Lines.antt, which names each line
+-- beside its calendars (`byLines`) and says what it is to yield a year's lengths before the last (`Yields`, by `Generates` of crate lines) and to find the
+-- position of every day of every year (`Finds`, by the `quotient` of the day, held to the last position); on specs/NewYears.antt; and on the calendars' rows
+-- and years (crates calendar_rules and counting).
 use Prim.Native.Nat.{ℕ, _<_}
 use mathlib.Core.List.{List}
 use lib.ListN.{length}

@@ -59,7 +59,8 @@ from-january z =
     sums z (z / 4) (z / 100) (z / 100 / 4) ((suc z + 3) / 4) ((suc z + 99) / 100) ((suc z + 399) / 400) (omega arith) (omega arith) (omega arith)
     (omega arith) (omega arith) (omega arith)
   where
-    sums : (z a b d a′ b′ d′ : ℕ) → a′ ≡ a + 1 → b′ ≡ b + 1 → d′ ≡ d + 1 → b ≤ z → b ≤ a → d ≤ b → 365 * suc z + (a′ - (b′ - (d′ - 0))) ≡ 365 * z + a - b + d + 366
+    sums : (z a b d a′ b′ d′ : ℕ) → a′ ≡ a + 1 → b′ ≡ b + 1 → d′ ≡ d + 1 → b ≤ z → b ≤ a → d ≤ b
+        → 365 * suc z + (a′ - (b′ - (d′ - 0))) ≡ 365 * z + a - b + d + 366
     sums z a b d a′ b′ d′ i j k l m o = omega arith
 
 pub next-start : (z : ℕ) → gregorianStart (suc z) ≡ gregorianStart z + (365 + cond (gregorianLong z) 1 0)

@@ -9,7 +9,7 @@ use native.Mathlib.Omega.{arith}
 use lib.Dec.{eqb, leb, ltb}
 use lib.IntN.{ℤ, pos, _+ℤ_, +ℤ-assoc}
 use lib.ListN.{length, take, getD}
-use borrow.Author.Tests.{leb-true, ltb-true, ltb-false}
+use borrow.Author.Tests.{eqb-true, leb-true, ltb-true, ltb-false}
 use Rattle.basics.specs.Every.{every}
 use Rattle.basics.proofs.Cases.{both, cond-elim}
 use Rattle.basics.proofs.Every.{every-at}
@@ -35,20 +35,51 @@ pub record Shape (positions : Bool → List ℕ) (count : ℕ) (before position 
 abbrev pub placed : List ℕ → ℕ → (ℕ → ℕ) → ℕ → ℕ → Bool
 placed ls count before q rest = ltb q count && (leb (before q) rest && ltb (rest - before q) (getD ls q 0))
 
+-- the days before each position
+abbrev pub before-each : List ℕ → ℕ → (ℕ → ℕ) → Bool
+before-each ls count before = every (λ q. eqb (total (take q ls)) (before q)) count
+
+-- the position of each day
+abbrev pub placed-each : List ℕ → ℕ → ℕ → (ℕ → ℕ) → (ℕ → ℕ) → Bool
+placed-each ls days count before position = every (λ r. placed ls count before (position r) r) days
+
+abbrev pub fits : List ℕ → ℕ → ℕ → (ℕ → ℕ) → (ℕ → ℕ) → Bool
+fits ls days count before position =
+    (eqb (length ls) count && eqb (total ls) days) && (before-each ls count before && placed-each ls days count before position)
+
 module _ (positions : Bool → List ℕ) (count : ℕ) (before position : ℕ → ℕ) where
-  pub tested-shape : ((t : Bool) → length (positions t) ≡ count) → ((t : Bool) → total (positions t) ≡ 365 + cond t 1 0)
-      → ((t : Bool) → every (λ q. eqb (total (take q (positions t))) (before q)) count ≡ true)
-      → ((t : Bool) → every (λ r. placed (positions t) count before (position r) r) (365 + cond t 1 0) ≡ true) → Shape positions count before position
-  tested-shape c d b p = record {
-    counted = c;
-    days = d;
-    before-is = λ t q h. by-test (λ q. total (take q (positions t))) before count (b t) q h;
-    place = λ t rest h. at t rest (every-at (λ r. placed (positions t) count before (position r) r) (365 + cond t 1 0) (p t) rest (omega (arith, d t)));
+  pub tested-shape : fits (positions true) 366 count before position ≡ true → fits (positions false) 365 count before position ≡ true
+      → Shape positions count before position
+  tested-shape long short = record {
+    counted = λ t. eqb-true (length (positions t)) count (sums t .0);
+    days = λ t. days t;
+    before-is = λ t q h. by-test (λ q. total (take q (positions t))) before count (each t .0) q h;
+    place = λ t rest h. place t rest
+        (every-at (λ r. placed (positions t) count before (position r) r) (365 + cond t 1 0) (each t .1) rest (omega (arith, days t)));
   }
     where
-      at : (t : Bool) (rest : ℕ) → let q = position rest in placed (positions t) count before q rest ≡ true
+      tested : (t : Bool) → fits (positions t) (365 + cond t 1 0) count before position ≡ true
+      tested true = long
+      tested false = short
+
+      sums : (t : Bool) → (eqb (length (positions t)) count ≡ true) × (eqb (total (positions t)) (365 + cond t 1 0) ≡ true)
+      sums t =
+          both (eqb (length (positions t)) count) (eqb (total (positions t)) (365 + cond t 1 0))
+          (both (eqb (length (positions t)) count && eqb (total (positions t)) (365 + cond t 1 0))
+          (before-each (positions t) count before && placed-each (positions t) (365 + cond t 1 0) count before position) (tested t) .0)
+
+      each : (t : Bool) → (before-each (positions t) count before ≡ true) × (placed-each (positions t) (365 + cond t 1 0) count before position ≡ true)
+      each t =
+          both (before-each (positions t) count before) (placed-each (positions t) (365 + cond t 1 0) count before position)
+          (both (eqb (length (positions t)) count && eqb (total (positions t)) (365 + cond t 1 0))
+          (before-each (positions t) count before && placed-each (positions t) (365 + cond t 1 0) count before position) (tested t) .1)
+
+      days : (t : Bool) → total (positions t) ≡ 365 + cond t 1 0
+      days t = eqb-true (total (positions t)) (365 + cond t 1 0) (sums t .1)
+
+      place : (t : Bool) (rest : ℕ) → let q = position rest in placed (positions t) count before q rest ≡ true
           → (q < count) × (before q ≤ rest) × (rest - before q < getD (positions t) q 0)
-      at t rest h =
+      place t rest h =
           let q : ℕ = position rest in
           let x = both (ltb q count) (leb (before q) rest && ltb (rest - before q) (getD (positions t) q 0)) h in
           let y = both (leb (before q) rest) (ltb (rest - before q) (getD (positions t) q 0)) (x .1) in
