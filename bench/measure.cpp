@@ -81,11 +81,11 @@ constexpr int64_t EPOCH = 2440588;  // the day of 1 January 1970
 struct Row {
     uint64_t number;
     const char *name;
-    uint64_t first_day;
+    uint64_t first_day, last_day = LAST_DAY;
 };
 
 const std::vector<Row> ROWS = {{1, "Egyptian", 1448638},  {2, "Armenian", 1922868},   {3, "Khwarizmian", 1952068}, {4, "Persian", 1952063},
-                               {5, "Ethiopian", 1724221}, {6, "Coptic", 1825030},     {7, "Republican", 2375840},  {8, "Macedonian", 1607709},
+                               {5, "Ethiopian", 1724221}, {6, "Coptic", 1825030},     {7, "Republican", 2375840, 2380687}, {8, "Macedonian", 1607709},
                                {9, "Syrian", 1607739},    {10, "Julian", 0},          {11, "Gregorian", 38},       {12, "Islamic A", 1948439},
                                {13, "Islamic B", 1948440}, {14, "Bahai", 2394647},    {15, "Saka", 1749995},       {18, "Hebrew", 347998}};
 
@@ -148,7 +148,7 @@ void conversions() {
         std::vector<ijok_date> dates, gregorian;
         uint64_t c = row.number;
         for (int k = 0; k < COUNT; ++k) {
-            uint64_t n = random.between(row.first_day, LAST_DAY);
+            uint64_t n = random.between(row.first_day, row.last_day);
             days.push_back(n);
             ijok_date date = ijok_day_to_date(c, n), by_chrono = chrono_date(n);
             dates.push_back(date);
@@ -287,7 +287,7 @@ void write_frames(const char *file, bool ordered) {
         if (ordered)
             write_frame(f, 11, LAST_DAY - FRAMES + uint64_t(k));
         else
-            write_frame(f, row.number, random.between(row.first_day, LAST_DAY));
+            write_frame(f, row.number, random.between(row.first_day, row.last_day));
     }
     std::fclose(f);
 }

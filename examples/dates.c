@@ -36,12 +36,19 @@ static void refusals(void) {
     struct ijok_day d = ijok_date_to_day(IJOK_GREGORIAN, 1900, 2, 29);
     struct ijok_date early = ijok_day_to_date(IJOK_HEBREW, 0);
     struct ijok_length none = ijok_position_length(IJOK_HEBREW, 5759, 7);
+    struct ijok_day last = ijok_date_to_day(IJOK_REPUBLICAN, 14, 4, 10);
+    struct ijok_day ended = ijok_date_to_day(IJOK_REPUBLICAN, 14, 4, 11);
+    struct ijok_date after = ijok_day_to_date(IJOK_REPUBLICAN, IJOK_REPUBLICAN_END + 1);
 
     expect(d.number == IJOK_NO_SUCH_DAY && d.day == 0, "29 February 1900");
     printf("29 February 1900 is refused %" PRIu64 "\n", d.number);
 
     expect(early.number == IJOK_DAY_OUT_OF_RANGE && early.year == 0 && early.month == 0 && early.day == 0, "a day before the Hebrew calendar's first");
     expect(none.number == IJOK_NO_SUCH_MONTH && none.days == 0, "position 7 of a common Hebrew year");
+    expect(last.number == IJOK_DONE && last.day == IJOK_REPUBLICAN_END, "the last Republican date");
+    expect(ended.number == IJOK_CALENDAR_ENDED && ended.day == 0, "the Republican date after it");
+    printf("14/4/10 is the last Republican date, and 14/4/11 is refused %" PRIu64 "\n", ended.number);
+    expect(after.number == IJOK_CALENDAR_ENDED && after.year == 0 && after.month == 0 && after.day == 0, "the day after the Republican end");
     expect(ijok_date_to_day(16, 2000, 1, 1).number == IJOK_UNKNOWN_CALENDAR, "calendar 16");
     expect(ijok_date_to_day(IJOK_JULIAN, -4713, 1, 1).number == IJOK_YEAR_OUT_OF_RANGE, "the year before the first");
     expect(ijok_date_to_day(IJOK_GREGORIAN, 10000, 1, 1).number == IJOK_DAY_OUT_OF_RANGE, "the day after the last");

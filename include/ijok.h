@@ -45,6 +45,8 @@ extern "C" {
  *
  * Leap years of 14 and 15 are by the Gregorian rule, in years Y + 1844 and Y + 78: Bahai years begin on 21 March of the Gregorian calendar, Saka years on
  * 22 March or, where they are leap, on 21 March.
+ *
+ * The Republican calendar ended: its last date is 14/4/10, day IJOK_REPUBLICAN_END, and later dates and days are refused 17.
  */
 enum ijok_calendar {
     IJOK_EGYPTIAN = 1,
@@ -66,7 +68,7 @@ enum ijok_calendar {
 };
 
 /* A day number is the Julian day number. The last one is 31 December 9999 Gregorian. */
-enum { IJOK_LAST_DAY = 5373484 };
+enum { IJOK_LAST_DAY = 5373484, IJOK_REPUBLICAN_END = 2380687 };
 
 /* The answer numbers. Each function below says which ones it tries, in what order; the first that applies is given, and 0 where none does. */
 enum ijok_answer {
@@ -81,7 +83,8 @@ enum ijok_answer {
     IJOK_MALFORMED_FRAME = 8,     /* the line of a sheet is not 16 lowercase hexadecimal digits */
     IJOK_WRONG_DAY = 9,           /* the frame's date is good, and its day number differs */
     IJOK_LINE_OUT_OF_LIMITS = 10, /* the line to unfold has not b from 1 to 512, r from 0 to b - 1 and a from 0 to 400 b */
-    IJOK_BUFFER_TOO_SHORT = 11    /* the buffer has less room than the count */
+    IJOK_BUFFER_TOO_SHORT = 11,   /* the buffer has less room than the count */
+    IJOK_CALENDAR_ENDED = 17      /* the date exists, or the day is in range, and it lies after the calendar's end */
 };
 
 struct ijok_day {
@@ -114,13 +117,13 @@ struct ijok_line {
     uint64_t r;
 };
 
-/* The day number of a date. Tries 1, 2, 3, 4, 5. */
+/* The day number of a date. Tries 1, 2, 3, 4, 17, 5. */
 struct ijok_day ijok_date_to_day(uint64_t calendar, int64_t year, uint64_t month, uint64_t day);
 
-/* The date of a day number. Tries 1, 5. */
+/* The date of a day number. Tries 1, 5, 17. */
 struct ijok_date ijok_day_to_date(uint64_t calendar, uint64_t day);
 
-/* The days of a position of a year: a month, or days between two months. Tries 1, 2, 3. */
+/* The days of a position of a year: a month, or days between two months. Tries 1, 2, 3; an end is no matter. */
 struct ijok_length ijok_position_length(uint64_t calendar, int64_t year, uint64_t position);
 
 /* The date of Easter by calendar 10, in years 1 to 9,999, or 11, in years 1,583 to 9,999. Tries 1, 2. The function hides the struct's name from
@@ -143,7 +146,7 @@ struct ijok_line ijok_fit(const uint64_t *code, size_t count);
 uint64_t ijok_unfold(uint64_t a, uint64_t b, uint64_t r, size_t count, uint64_t *buffer, size_t room);
 
 /* The answer number that a sheet gives a line of `length` bytes, its newline not counted. A frame is 16 digits: calendar 2, year plus 4,712 as 4, month
- * 2, day of month 2, day number 6, high digit first. 8 for any other line; for a frame tries 1, 2, 3, 4, 5, 9. */
+ * 2, day of month 2, day number 6, high digit first. 8 for any other line; for a frame tries 1, 2, 3, 4, 17, 5, 9. */
 uint64_t ijok_verdict(const uint8_t *line, size_t length);
 
 #ifdef __cplusplus

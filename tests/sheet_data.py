@@ -101,6 +101,7 @@ CALENDARS = {  # number: first year, first day, lengths
     8: (1, 1607709, from_month(9)), 9: (1, 1607739, from_month(10)), 10: (-4712, 0, julian), 11: (-4712, 38, gregorian),
     12: (1, 1948439, islamic), 13: (1, 1948440, islamic), 14: (1, 2394647, bahai), 15: (1, 1749995, saka), 18: (1, 347998, hebrew),
 }
+REPUBLICAN, REPUBLICAN_END = 7, (14, 4, 10)  # the last date; the lengths go on
 starts = {}  # the first day of each year, counted from the calendar's first
 
 
@@ -110,6 +111,11 @@ def year_start(c, y):
     while len(known) <= y - first:
         known.append(known[-1] + sum(lengths(first + len(known) - 1)))
     return known[y - first]
+
+
+def counted_day(c, y, m, d):
+    """The day of a date that exists, counted on where it is after the calendar's end or past the last day."""
+    return year_start(c, y) + sum(CALENDARS[c][2](y)[:m - 1]) + d - 1
 
 
 def date_to_day(c, y, m, d):
@@ -124,7 +130,9 @@ def date_to_day(c, y, m, d):
         return 3, 0
     if d == 0 or d > months[m - 1]:
         return 4, 0
-    n = year_start(c, y) + sum(months[:m - 1]) + d - 1
+    if c == REPUBLICAN and (y, m, d) > REPUBLICAN_END:
+        return 17, 0
+    n = counted_day(c, y, m, d)
     return (5, 0) if n > LAST_DAY else (0, n)
 
 
@@ -151,8 +159,9 @@ def frame(c, y, m, d, n):
 
 
 def dated(c, y, m, d, off=0):
-    """The frame of a date with its day, or with one that is off."""
-    return frame(c, y, m, d, date_to_day(c, y, m, d)[1] + off)
+    """The frame of a date with its day as counted, or with one that is off. A date that does not exist has day 0."""
+    exists = date_to_day(c, y, m, d)[0] in (0, 5, 17)
+    return frame(c, y, m, d, (counted_day(c, y, m, d) if exists else 0) + off)
 
 
 def year_sheet(c, y):
@@ -162,7 +171,7 @@ def year_sheet(c, y):
 def random_frame(r):
     c = r.choice(sorted(CALENDARS))
     first, day, lengths = CALENDARS[c]
-    y = r.randint(first, 12000)
+    y = r.randint(first, REPUBLICAN_END[0] if c == REPUBLICAN else 12000)
     months = lengths(y)
     m = r.choice([i for i, length in enumerate(months) if length]) + 1
     return dated(c, y, m, r.randint(1, months[m - 1]), r.choice([0] * 9 + [1]))
@@ -186,6 +195,13 @@ def sheet():
     # Bahai and Saka: the extra day in 1900, which has none, and in 2000; the days after; and the day that there would be with every fourth year leap
     lines += [dated(14, 56, 19, 5), dated(14, 56, 20, 1), dated(14, 156, 19, 5), dated(14, 156, 20, 1), dated(14, 157, 1, 1), dated(14, 157, 1, 1, 1)]
     lines += [dated(15, 1822, 1, 31), dated(15, 1822, 2, 1), dated(15, 1922, 1, 31), dated(15, 1922, 2, 1), dated(15, 1879, 1, 1), dated(15, 1879, 1, 1, 15)]
+    # Republican: the last date, with its day and another; later ones with their day, with another, with the last date's and with none; dates that do not exist; past the last day;
+    # the last years. Ethiopian and Coptic dates go on
+    lines += [dated(7, 14, 4, 9), dated(7, 14, 4, 10), dated(7, 14, 4, 10, 1), dated(7, 14, 4, 10, -1), frame(7, 14, 4, 10, 0)]
+    lines += [dated(7, 14, 4, 11), dated(7, 14, 4, 11, 1), dated(7, 14, 4, 11, -1), frame(7, 14, 4, 11, 0), frame(7, 14, 4, 11, 0xffffff), dated(7, 14, 4, 30), dated(7, 14, 5, 1), dated(7, 14, 13, 5)]
+    lines += [dated(7, 14, 4, 0), dated(7, 14, 4, 31), frame(7, 14, 4, 31, 2380708), dated(7, 14, 13, 6), dated(7, 14, 0, 11), dated(7, 14, 14, 11), dated(7, 15, 13, 6), dated(7, 15, 13, 7)]
+    lines += [dated(7, 15, 1, 1), dated(7, 15, 1, 1, 1), dated(7, 100, 1, 1), dated(7, 8208, 2, 8), dated(7, 8208, 2, 9), dated(7, 20000, 13, 5), dated(7, 20000, 13, 6), dated(7, 20001, 1, 1)]
+    lines += [dated(c, 14, 4, 11, off) for c in (5, 6) for off in (0, 1)] + year_sheet(7, 14)
     # the whole of a Gregorian and of a Hebrew year
     lines += year_sheet(11, 2024) + year_sheet(18, 5784)
     # a line of more than 64 KiB of digits, lines of no bytes, and the sheet goes on
@@ -207,7 +223,7 @@ def main():
     elif sys.argv[1:2] == ['--frames']:
         r = random.Random(2)
         if sys.argv[2] == 'years':
-            some = [line for c in CALENDARS for y in range(5700, 5800) for line in year_sheet(c, y)]
+            some = [line for c in CALENDARS for y in (range(1, REPUBLICAN_END[0]) if c == REPUBLICAN else range(5700, 5800)) for line in year_sheet(c, y)]
         else:
             some = [random_frame(r) for _ in range(20000)]
             some = r.choices(some, k=500000)
@@ -218,7 +234,9 @@ def main():
         data = sheet()
         answers = output(data)
         assert answers.startswith(b'00\n09\n08\n')
-        assert {int(a, 16) for a in answers.split()} == {0, 1, 2, 3, 4, 5, 8, 9}
+        assert {int(a, 16) for a in answers.split()} == {0, 1, 2, 3, 4, 5, 8, 9, 17}
+        republican = [date_to_day(7, y, m, d) for y in (*range(40), 8208, 20000, 20001) for m in range(15) for d in range(32)]
+        assert [n for number, n in republican if number == 0] == list(range(2375840, 2380687 + 1))
         open(os.path.join(folder, 'stdin'), 'wb').write(data)
         open(os.path.join(folder, 'stdout'), 'wb').write(answers)
 

@@ -191,6 +191,7 @@ Almanac made(uint64_t calendar) {
     } else {
         for (int64_t y = a.first_year; y <= LAST_YEAR; ++y) a.lengths.push_back(plain_year(calendar, y));
     }
+    if (calendar == IJOK_REPUBLICAN) a.end = Date{14, 4, 10};
     int64_t day = a.first_day;
     for (const Lengths &l : a.lengths) {
         a.begins.push_back(day);
@@ -200,6 +201,12 @@ Almanac made(uint64_t calendar) {
 }
 
 }  // namespace
+
+int64_t Almanac::counted(const Date &date) const {
+    int64_t n = begins[date.year - first_year];
+    for (uint64_t p = 1; p < date.month; ++p) n += year(date.year)[p - 1];
+    return n + int64_t(date.day) - 1;
+}
 
 const Almanac &almanac(uint64_t calendar) {
     static Almanac all[19];
@@ -215,22 +222,22 @@ bool listed(uint64_t calendar) {
 }
 
 ijok_length naive_position_length(uint64_t calendar, int64_t year, uint64_t position) {
-    if (!listed(calendar)) return {1, 0};
+    if (!listed(calendar)) return {UNKNOWN_CALENDAR, 0};
     const Almanac &a = almanac(calendar);
-    if (year < a.first_year || year > LAST_YEAR) return {2, 0};
+    if (year < a.first_year || year > LAST_YEAR) return {YEAR_OUT_OF_RANGE, 0};
     const Lengths &l = a.year(year);
-    if (position < 1 || position > l.size() || l[position - 1] == 0) return {3, 0};
-    return {0, uint64_t(l[position - 1])};
+    if (position < 1 || position > l.size() || l[position - 1] == 0) return {NO_SUCH_MONTH, 0};
+    return {DONE, uint64_t(l[position - 1])};
 }
 
 ijok_day naive_date_to_day(uint64_t calendar, int64_t year, uint64_t month, uint64_t day) {
     ijok_length length = naive_position_length(calendar, year, month);
     if (length.number) return {length.number, 0};
-    if (day < 1 || day > length.days) return {4, 0};
+    if (day < 1 || day > length.days) return {NO_SUCH_DAY, 0};
     const Almanac &a = almanac(calendar);
-    int64_t n = a.begins[year - a.first_year];
-    for (uint64_t p = 1; p < month; ++p) n += a.year(year)[p - 1];
-    n += int64_t(day) - 1;
-    if (n > LAST_DAY) return {5, 0};
-    return {0, uint64_t(n)};
+    const Date date = {year, month, day};
+    if (a.ends_before(date)) return {AFTER_THE_END, 0};
+    int64_t n = a.counted(date);
+    if (n > LAST_DAY) return {DAY_OUT_OF_RANGE, 0};
+    return {DONE, uint64_t(n)};
 }

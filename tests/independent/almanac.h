@@ -1,6 +1,8 @@
 // The sixteen calendars by the naive road: the length of each position of each year, and counting day by day.
 #pragma once
+#include <compare>
 #include <cstdint>
+#include <optional>
 #include <vector>
 
 #include "../../include/ijok.h"
@@ -9,14 +11,39 @@ constexpr int64_t LAST_DAY = 5373484;
 constexpr int64_t LAST_YEAR = 20000;
 extern const std::vector<uint64_t> LISTED;
 
+// The answer numbers of docs/RULES.md that dates and sheets have, written anew.
+enum Answer : uint64_t {
+    DONE = 0,
+    UNKNOWN_CALENDAR = 1,
+    YEAR_OUT_OF_RANGE = 2,
+    NO_SUCH_MONTH = 3,
+    NO_SUCH_DAY = 4,
+    DAY_OUT_OF_RANGE = 5,
+    MALFORMED_FRAME = 8,
+    WRONG_DAY = 9,
+    AFTER_THE_END = 17
+};
+
+struct Date {
+    int64_t year;
+    uint64_t month, day;
+
+    auto operator<=>(const Date &) const = default;
+};
+
 struct Almanac {
     int64_t first_year = 0;
     int64_t first_day = 0;
     // the positions of each year from the first to 20,000, and the day on which each begins
     std::vector<std::vector<int>> lengths;
     std::vector<int64_t> begins;
+    // the last date, where the calendar was given up. The lengths go on after it
+    std::optional<Date> end;
 
     const std::vector<int> &year(int64_t y) const { return lengths[y - first_year]; }
+    bool ends_before(const Date &date) const { return end && *end < date; }
+    // The day of a date that exists, counted on past the end and the last day.
+    int64_t counted(const Date &date) const;
 };
 
 // The calendar with that number, which is one of LISTED.

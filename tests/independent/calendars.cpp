@@ -13,15 +13,42 @@ constexpr int64_t MOST = std::numeric_limits<int64_t>::max();
 
 const std::vector<uint64_t> UNLISTED = {0, 16, 17, 19, 20, 21, 31, 32, 64, 127, 128, 255, 256, 266, 65536 + 11, (uint64_t(1) << 32) + 11, uint64_t(1) << 63, TOP - 1, TOP};
 
-// From the calendar's first day to the last, counted one by one: each day's date, and that date's day.
-void days_of(uint64_t c) {
+// One comparison in each direction; answers whether the library refuses nothing.
+bool day_to_date(uint64_t c, uint64_t n, const Fields &expected) {
+    ijok_date got = ijok_day_to_date(c, n);
+    report.same(got, expected, "day to date, calendar %" PRIu64 ", day %" PRIu64, c, n);
+    return got.number == DONE;
+}
+
+bool date_to_day(uint64_t c, const Date &date, const Fields &expected) {
+    ijok_day got = ijok_date_to_day(c, date.year, date.month, date.day);
+    report.same(got, expected, "date to day, calendar %" PRIu64 ", %" PRId64 "/%" PRIu64 "/%" PRIu64, c, date.year, date.month, date.day);
+    return got.number == DONE;
+}
+
+// How many days have a date. Republican: thirteen years, of which 3, 7 and 11 are leap, then three months and ten days.
+uint64_t days_with_a_date(uint64_t c) {
+    if (c == IJOK_REPUBLICAN) return 13 * 365 + 3 + 3 * 30 + 10;
+    return uint64_t(LAST_DAY - almanac(c).first_day + 1);
+}
+
+// How much the library accepts.
+struct Accepted {
+    uint64_t days = 0, dates = 0;
+};
+
+// From the calendar's first day to the last, counted one by one: each day's date, and that date's day. After the end of a calendar the dates are counted on, and refused.
+Accepted days_of(uint64_t c) {
     const Almanac &a = almanac(c);
-    for (int64_t n = 0; n < a.first_day; ++n) report.same(ijok_day_to_date(c, n), 5, "day to date, calendar %" PRIu64 ", day %" PRId64, c, n);
+    Accepted accepted;
+    for (int64_t n = 0; n < a.first_day; ++n) accepted.days += day_to_date(c, n, DAY_OUT_OF_RANGE);
     int64_t year = a.first_year;
     uint64_t month = 1, day = 1;
     for (int64_t n = a.first_day; n <= LAST_DAY; ++n) {
-        report.same(ijok_day_to_date(c, n), ijok_date{0, year, month, day}, "day to date, calendar %" PRIu64 ", day %" PRId64, c, n);
-        report.same(ijok_date_to_day(c, year, month, day), ijok_day{0, uint64_t(n)}, "date to day, calendar %" PRIu64 ", %" PRId64 "/%" PRIu64 "/%" PRIu64, c, year, month, day);
+        const Date date = {year, month, day};
+        const bool ended = a.ends_before(date);
+        accepted.days += day_to_date(c, n, ended ? Fields(AFTER_THE_END) : ijok_date{DONE, year, month, day});
+        accepted.dates += date_to_day(c, date, ended ? Fields(AFTER_THE_END) : ijok_day{DONE, uint64_t(n)});
         // the next day: of this position, of the next one that has days, of the next year
         if (day < uint64_t(a.year(year)[month - 1])) {
             ++day;
@@ -36,15 +63,16 @@ void days_of(uint64_t c) {
             }
         } while (a.year(year)[month - 1] == 0);
     }
+    return accepted;
 }
 
 void days_outside() {
     const std::vector<uint64_t> late = {LAST_DAY + 1, LAST_DAY + 2, LAST_DAY + 366, 9000000, uint64_t(1) << 31, uint64_t(1) << 32, (uint64_t(1) << 32) + 2451545, uint64_t(1) << 63, TOP - 1, TOP};
     for (uint64_t c : LISTED)
-        for (uint64_t n : late) report.same(ijok_day_to_date(c, n), 5, "day to date, calendar %" PRIu64 ", day %" PRIu64, c, n);
+        for (uint64_t n : late) day_to_date(c, n, DAY_OUT_OF_RANGE);
     for (uint64_t c : UNLISTED) {
-        for (uint64_t n : late) report.same(ijok_day_to_date(c, n), 1, "day to date, calendar %" PRIu64 ", day %" PRIu64, c, n);
-        for (uint64_t n : {0, 1, 38, 347998, 2451545, 5373484}) report.same(ijok_day_to_date(c, n), 1, "day to date, calendar %" PRIu64 ", day %" PRIu64, c, n);
+        for (uint64_t n : late) day_to_date(c, n, UNKNOWN_CALENDAR);
+        for (uint64_t n : {0, 1, 38, 347998, 2451545, 5373484}) day_to_date(c, n, UNKNOWN_CALENDAR);
     }
 }
 
@@ -52,21 +80,21 @@ void length_at(uint64_t c, int64_t y, uint64_t p) {
     report.same(ijok_position_length(c, y, p), naive_position_length(c, y, p), "length, calendar %" PRIu64 ", year %" PRId64 ", position %" PRIu64, c, y, p);
 }
 
-void date_at(uint64_t c, int64_t y, uint64_t m, uint64_t d) {
-    report.same(ijok_date_to_day(c, y, m, d), naive_date_to_day(c, y, m, d), "date to day, calendar %" PRIu64 ", %" PRId64 "/%" PRIu64 "/%" PRIu64, c, y, m, d);
-}
+bool date_at(uint64_t c, int64_t y, uint64_t m, uint64_t d) { return date_to_day(c, {y, m, d}, naive_date_to_day(c, y, m, d)); }
 
 // The years at and beyond the limits.
 std::vector<int64_t> odd_years(int64_t first) {
-    std::vector<int64_t> years = {LEAST, LEAST + 1, LEAST + 4711, LEAST + 4712, -(int64_t(1) << 32), -65536, -20001, -20000, -4714, -4713, -4712, -4711, -401, -400, -101, -100, -5, -4, -3, -2, -1, 0, 1, 2, 3, 4, 5,
-                                  1582, 1583, 1900, 2000, 9998, 9999, 10000, 10001, 13760, 13761, 19998, 19999, 20000, 20001, 20002, 24712, 24713, 65536, int64_t(1) << 31, int64_t(1) << 32, (int64_t(1) << 32) + 2000, MOST - 4712, MOST - 1, MOST};
+    std::vector<int64_t> years = {LEAST, LEAST + 1, LEAST + 4711, LEAST + 4712, -(int64_t(1) << 32), -65536, -20001, -20000, -4714, -4713, -4712, -4711, -401, -400, -101, -100, -5, -4, -3, -2, -1,
+                                  0, 1, 2, 3, 4, 5, 13, 14, 15, 16, 1582, 1583, 1900, 2000, 9998, 9999, 10000, 10001, 13760, 13761, 19998, 19999, 20000, 20001, 20002, 24712, 24713, 65536,
+                                  int64_t(1) << 31, int64_t(1) << 32, (int64_t(1) << 32) + 14, (int64_t(1) << 32) + 2000, MOST - 4712, MOST - 1, MOST};
     for (int64_t k = -3; k <= 3; ++k) years.push_back(first + k);
     return years;
 }
 
-const std::vector<uint64_t> ODD_MONTHS = {0, 1, 2, 3, 4, 5, 6, 7, 8, 9, 10, 11, 12, 13, 14, 15, 18, 19, 20, 21, 22, 31, 32, 64, 255, 256, 257, 65536, 65537, (uint64_t(1) << 32) + 1, uint64_t(1) << 63, TOP - 1, TOP};
+const std::vector<uint64_t> ODD_MONTHS = {0, 1, 2, 3, 4, 5, 6, 7, 8, 9, 10, 11, 12, 13, 14, 15, 18, 19, 20, 21, 22, 31, 32, 64, 255, 256, 257, 65536, 65537,
+                                          (uint64_t(1) << 32) + 1, uint64_t(1) << 63, TOP - 1, TOP};
 
-const std::vector<uint64_t> ODD_DAYS = {0, 1, 2, 4, 5, 6, 18, 19, 20, 27, 28, 29, 30, 31, 32, 33, 255, 256, 257, 385, 65537, (uint64_t(1) << 32) + 1, uint64_t(1) << 63, TOP - 1, TOP};
+const std::vector<uint64_t> ODD_DAYS = {0, 1, 2, 4, 5, 6, 9, 10, 11, 18, 19, 20, 27, 28, 29, 30, 31, 32, 33, 255, 256, 257, 385, 65537, (uint64_t(1) << 32) + 1, uint64_t(1) << 63, TOP - 1, TOP};
 
 void limits_of(uint64_t c, int64_t first) {
     for (int64_t y : odd_years(first))
@@ -76,11 +104,60 @@ void limits_of(uint64_t c, int64_t first) {
         }
 }
 
+// The Republican end as the change request has it, written out: a date that does not exist is refused as such also after it, and day to date tries the range of days first.
+void end_written_out() {
+    const uint64_t c = IJOK_REPUBLICAN;
+    const std::vector<std::pair<Date, ijok_day>> dates = {
+        {{1, 1, 1}, {DONE, 2375840}},            {{14, 1, 1}, {DONE, 2380588}},            {{14, 4, 9}, {DONE, 2380686}},        {{14, 4, 10}, {DONE, 2380687}},
+        {{14, 4, 11}, {AFTER_THE_END, 0}},       {{14, 4, 30}, {AFTER_THE_END, 0}},        {{14, 4, 31}, {NO_SUCH_DAY, 0}},      {{14, 4, 0}, {NO_SUCH_DAY, 0}},
+        {{14, 5, 1}, {AFTER_THE_END, 0}},        {{14, 5, 0}, {NO_SUCH_DAY, 0}},           {{14, 5, 31}, {NO_SUCH_DAY, 0}},      {{14, 0, 11}, {NO_SUCH_MONTH, 0}},
+        {{14, 13, 5}, {AFTER_THE_END, 0}},       {{14, 13, 6}, {NO_SUCH_DAY, 0}},          {{14, 14, 1}, {NO_SUCH_MONTH, 0}},    {{15, 1, 1}, {AFTER_THE_END, 0}},
+        {{15, 13, 6}, {AFTER_THE_END, 0}},       {{15, 13, 7}, {NO_SUCH_DAY, 0}},          {{8208, 2, 8}, {AFTER_THE_END, 0}},   {{8208, 2, 9}, {AFTER_THE_END, 0}},
+        {{20000, 1, 1}, {AFTER_THE_END, 0}},     {{20000, 13, 5}, {AFTER_THE_END, 0}},     {{20000, 13, 6}, {NO_SUCH_DAY, 0}},   {{20000, 14, 1}, {NO_SUCH_MONTH, 0}},
+        {{20001, 1, 1}, {YEAR_OUT_OF_RANGE, 0}}, {{20001, 14, 0}, {YEAR_OUT_OF_RANGE, 0}}, {{0, 13, 5}, {YEAR_OUT_OF_RANGE, 0}}, {{MOST, 4, 11}, {YEAR_OUT_OF_RANGE, 0}}};
+    for (const auto &[date, expected] : dates) {
+        date_to_day(c, date, expected);
+        report.same(naive_date_to_day(c, date.year, date.month, date.day), expected, "the naive date to day, Republican %" PRId64 "/%" PRIu64 "/%" PRIu64, date.year, date.month, date.day);
+    }
+    day_to_date(c, 2375839, DAY_OUT_OF_RANGE);
+    day_to_date(c, 2375840, ijok_date{DONE, 1, 1, 1});
+    day_to_date(c, 2380686, ijok_date{DONE, 14, 4, 9});
+    day_to_date(c, 2380687, ijok_date{DONE, 14, 4, 10});
+    day_to_date(c, 2380688, AFTER_THE_END);
+    day_to_date(c, LAST_DAY, AFTER_THE_END);
+    day_to_date(c, LAST_DAY + 1, DAY_OUT_OF_RANGE);
+    day_to_date(c, TOP, DAY_OUT_OF_RANGE);
+    // the calendars of the same shape have no end
+    for (uint64_t other : {IJOK_ETHIOPIAN, IJOK_COPTIC}) {
+        int64_t n = almanac(other).first_day + (2380688 - 2375840);
+        date_to_day(other, {14, 4, 11}, ijok_day{DONE, uint64_t(n)});
+        day_to_date(other, n, ijok_date{DONE, 14, 4, 11});
+    }
+}
+
 }  // namespace
 
 void compare_calendars() {
-    for (uint64_t c : LISTED) days_of(c);
-    report.line("days 0 to 5373484 in sixteen calendars, counted one by one: day to date, and back for each day that has a date");
+    std::vector<Accepted> accepted;
+    for (uint64_t c : LISTED) accepted.push_back(days_of(c));
+    report.line("days 0 to 5373484 in sixteen calendars, counted one by one: day to date, and back from each calendar's first day on; Republican ones after the end refused");
+
+    for (size_t k = 0; k < LISTED.size(); ++k) {
+        const uint64_t c = LISTED[k];
+        report.same(accepted[k].days, days_with_a_date(c), "how many days have a date, calendar %" PRIu64, c);
+        report.same(accepted[k].dates, days_with_a_date(c), "how many dates have a day, calendar %" PRIu64, c);
+    }
+    report.line("how many of these days and dates each calendar accepts");
+
+    end_written_out();
+    report.line("dates and days about the Republican end, written out");
+
+    uint64_t republican = 0;
+    for (int64_t y = 0; y <= LAST_YEAR + 1; ++y)
+        for (uint64_t m = 0; m <= 14; ++m)
+            for (uint64_t d = 0; d <= 31; ++d) republican += date_at(IJOK_REPUBLICAN, y, m, d);
+    report.same(republican, days_with_a_date(IJOK_REPUBLICAN), "how many Republican dates are accepted");
+    report.line("Republican days 0 to 31 of positions 0 to 14, years 0 to 20001, and that 4848 of them are accepted");
 
     days_outside();
     report.line("days beyond the last, and days in calendars that are not listed");

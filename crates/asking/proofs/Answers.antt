@@ -1,7 +1,7 @@
 -- The answers in steps are the answers: a year that is refused; a position that the year does not have; and one that it has, with the days in it.
 use mathlib.Core.Option.{Option}
 use mathlib.Core.Path.{_≡_, refl, sym, ap, _∙_}
-use mathlib.Core.Bool.{Bool, true, false, cond, _||_, true≢false}
+use mathlib.Core.Bool.{Bool, true, false, cond, _&&_, _||_, true≢false}
 use Prim.Native.Nat.{ℕ, zero, suc, _+_, _-_, _*_, _/_, _%_, _^_, _≤_, _<_}
 use native.Mathlib.Decide.{decLt}
 use native.Mathlib.Omega.{arith}
@@ -9,24 +9,24 @@ use lib.Dec.{eqb, ltb}
 use lib.IntN.{ℤ, negsuc}
 use lib.ListN.{take}
 use lib.Signed.{ltZ}
-use borrow.Author.Tests.{le-ltb, lt-ltb, ltb-false, eqb-true, eqb-false, eq-eqb, ne-eqb}
+use borrow.Author.Tests.{le-ltb, lt-ltb, ltb-true, ltb-false, eqb-true, eqb-false, eq-eqb, ne-eqb}
 use Rattle.counting.specs.Calendar.{total, start, len, dayOf}
 use Rattle.counting.specs.Years.{yearsFrom}
 use Rattle.counting.specs.Answers.{Calendar, years, DayAnswer, DateAnswer, LengthAnswer, lastDay, lastYear, yearOut, noMonth, noDay, dayOut, dayNumber}
-use Rattle.counting.specs.Answers.{noDayAnswer, noDateAnswer, noLengthAnswer, dayFor, dateFor, lengthFor, dated, dateOn}
+use Rattle.counting.specs.Answers.{noDayAnswer, noDateAnswer, noLengthAnswer, dayFor, dateFor, lengthFor, dated, dateOn, after, ended, lastOf}
 use Rattle.basics.proofs.Cases.{neither, cond-elim}
 use Rattle.counting.proofs.Counting.{counted}
-use Rattle.counting.proofs.Rounds.{lengths-at, no-month}
+use Rattle.counting.proofs.Rounds.{lengths-at, no-month, last-in, last-small, past-end, answered}
 use Rattle.counting.proofs.Signs.{years-small}
 use Rattle.counting.proofs.Totals.{getD-le-total}
-use Rattle.calendar_rules.specs.Calendars.{calendar, Listed}
+use Rattle.calendar_rules.specs.Calendars.{lookup, calendar, Listed}
 use Rattle.calendar_rules.specs.Answers.{ofListed, dayAnswer, dateAnswer, lengthAnswer}
-use Rattle.calendar_rules.proofs.Listed.{listed-sound}
+use Rattle.calendar_rules.proofs.Listed.{listed-sound, endIf, end-is}
 use Rattle.calendar_rules.proofs.Bounds.{start-within, position-within, year-days, has-days}
-use Rattle.calendar_rules.proofs.Claims.{day-asked, length-asked}
-use Rattle.months.specs.Parts.{lengthAt, MonthOf, PlaceOf, packedIn, PackedAt}
-use Rattle.asking.specs.Steps.{listed, OfListed, packedDay, noneNumber, packedNone, noneLength, Answered, Sought, dayIn, noDate, Found}
-use Rattle.asking.proofs.Arms.{before-first}
+use Rattle.calendar_rules.proofs.Claims.{day-asked, date-asked, length-asked}
+use Rattle.months.specs.Parts.{lengthAt, MonthOf, PlaceOf, PlaceTo, packedIn, PackedAt}
+use Rattle.asking.specs.Steps.{OfListed, packedDay, noneNumber, packedNone, noneLength, Answered, Sought, onDay, inRange, tryEnd, endTried, dayIn, whyNot, Found}
+use Rattle.asking.proofs.Arms.{before-first, never}
 
 -- ---- in a calendar, a year that is not refused
 
@@ -52,7 +52,7 @@ module _ (K : Calendar) (y : ℤ) (m : ℕ) (o : yearOut K y ≡ false) where
   lengths-are : K .lengths y ≡ years K i
   lengths-are = lengths-at K y (neither (ltZ y (K .firstYear)) (ltZ lastYear y) o .0)
 
-  day-for : (d : ℕ) → dayFor K y m d ≡ cond (eqb m 0 || eqb (len (years K i) m) 0) (noDayAnswer 3) (dayIn b (len (years K i) m) d)
+  day-for : (d : ℕ) → dayFor K y m d ≡ cond (eqb m 0 || eqb (len (years K i) m) 0) (noDayAnswer 3) (dayIn K b (len (years K i) m) d)
   unfolding dayFor
   day-for d = rw (o, no-month K y m, lengths-are, day-out d, number-is d) refl
 
@@ -62,8 +62,8 @@ module _ (K : Calendar) (y : ℤ) (m : ℕ) (o : yearOut K y ≡ false) where
 
 -- ---- a day as one number
 
-pub packed-in : (b l d : ℕ) → packedIn b l d ≡ packedDay (dayIn b l d)
-packed-in b l d = go (eqb d 0 || ltb l d) (ltb lastDay (b + (d - 1)))
+pub packed-in : (K : Calendar) → K .end ≡ Option.none → (b l d : ℕ) → packedIn b l d ≡ packedDay (dayIn K b l d)
+packed-in K f b l d = rw f (go (eqb d 0 || ltb l d) (ltb lastDay (b + (d - 1))))
   where
     go : (t u : Bool) → cond t 17179869184 (cond u 21474836480 (b + (d - 1)))
         ≡ packedDay (cond t (noDayAnswer 4) (cond u (noDayAnswer 5) (record { number = 0; day = b + (d - 1) })))
@@ -171,7 +171,7 @@ module _ {c : ℕ} {y : ℤ} (x : YearIn c y) (m : ℕ) where
   abbrev pub beginOf : ℕ
   beginOf = x .calendar .firstDay + start (years (x .calendar)) (yearsOf x) + total (take (m - 1) (years (x .calendar) (yearsOf x)))
 
-  pub day-there : (m ≡ 0 → ⊥) → (daysOf ≡ 0 → ⊥) → (d : ℕ) → dayIn beginOf daysOf d ≡ dayAnswer c y m d
+  pub day-there : (m ≡ 0 → ⊥) → (daysOf ≡ 0 → ⊥) → (d : ℕ) → dayIn (x .calendar) beginOf daysOf d ≡ dayAnswer c y m d
   day-there n z d = rw (day-asked (x .listed) y m d, day-for (x .calendar) y m (x .inside) d, ne-eqb m 0 n, ne-eqb daysOf 0 z) refl
 
   pub length-there : (m ≡ 0 → ⊥) → (daysOf ≡ 0 → ⊥) → _≡_ {A = LengthAnswer} (record { number = 0; days = daysOf }) (lengthAnswer c y m)
@@ -196,53 +196,111 @@ module _ {c : ℕ} {y : ℤ} (x : YearIn c y) (m : ℕ) where
     pub found-small : (start ≤ 20000000) × (days ≤ 385)
     found-small = let s = there-small in (omega (arith, s .0, begins-there), omega (arith, s .1, f .length-is))
 
-    pub found-day : (d : ℕ) → packedDay (dayIn start days d) ≡ packedDay (dayAnswer c y m d)
-    found-day d = ap packedDay ((λ i. dayIn (begins-there i) (f .length-is i) d) ∙ day-there n (λ e. z (f .length-is ∙ e)) d)
+    pub found-day : (d : ℕ) → packedDay (dayIn (x .calendar) start days d) ≡ packedDay (dayAnswer c y m d)
+    found-day d = ap packedDay ((λ i. dayIn (x .calendar) (begins-there i) (f .length-is i) d) ∙ day-there n (λ e. z (f .length-is ∙ e)) d)
 
-  -- and of a position that the year may have or not
-  pub packed-there : (d r : ℕ) → (m ≡ 0 → ⊥) → PackedAt (x .calendar) (yearsOf x) (m - 1) d r → r ≡ packedDay (dayAnswer c y m d)
-  packed-there d r n p = go (decLt 0 daysOf)
+  -- and of a position that the year may have or not, where the calendar did not end
+  pub packed-there : x .calendar .end ≡ Option.none → (d r : ℕ) → (m ≡ 0 → ⊥) → PackedAt (x .calendar) (yearsOf x) (m - 1) d r
+      → r ≡ packedDay (dayAnswer c y m d)
+  packed-there f d r n p = go (decLt 0 daysOf)
     where
       go : Dec (0 < daysOf) → r ≡ packedDay (dayAnswer c y m d)
-      go (yes l) = p .there l ∙ packed-in _ _ d ∙ ap packedDay (day-there n (λ z. omega arith) d)
+      go (yes l) = p .there l ∙ packed-in (x .calendar) f _ _ d ∙ ap packedDay (day-there n (λ z. omega arith) d)
       go (no l) =
           let e : dayAnswer c y m d ≡ noDayAnswer 3 =
           rw (day-asked (x .listed) y m d, day-for (x .calendar) y m (x .inside) d, ne-eqb m 0 n, eq-eqb daysOf 0 (omega arith)) refl in
           p .none (omega arith) ∙ ap packedDay (sym e)
 
+-- ---- 17, tried last
+
+and-false : (t : Bool) → (t && false) ≡ false
+and-false true = refl
+and-false false = refl
+
+-- it leaves the other refusals
+refusal-stays : (c k : ℕ) → 1 ≤ k → k ≤ 4 → endTried c (k * 2 ^ 32) ≡ k * 2 ^ 32
+unfolding endTried tryEnd
+refusal-stays c k h g = go (calendar c)
+  where
+    stays : (e : Option ℕ) → tryEnd e (k * 2 ^ 32) ≡ k * 2 ^ 32
+    stays Option.none = refl
+    stays (Option.some e) =
+        rw (le-ltb (k * 2 ^ 32) (2 ^ 32) (omega arith), ne-eqb (k * 2 ^ 32) (5 * 2 ^ 32) (omega arith), and-false (ltb e (k * 2 ^ 32))) refl
+
+    go : (o : Option Calendar) → ofListed o (k * 2 ^ 32) (λ K. tryEnd (K .end) (k * 2 ^ 32)) ≡ k * 2 ^ 32
+    go Option.none = refl
+    go (Option.some K) = stays (K .end)
+
+pub none-stays : (c : ℕ) (y : ℤ) → endTried c (packedNone c y) ≡ packedNone c y
+none-stays c y = let w = none-within c y in refusal-stays c (noneNumber c y) (w .0) (omega (arith, w .1))
+
+pub not-found-stays : (c : ℕ) (y : ℤ) (days : ℕ)
+    → let r = cond (eqb days 0) (packedNone c y) (4 * 2 ^ 32) in endTried c r ≡ r
+not-found-stays c y days =
+    cond-elim (λ (r : ℕ). endTried c r ≡ r) (eqb days 0) _ _ (λ e. none-stays c y) (λ e. refusal-stays c 4 (omega arith) (omega arith))
+
+-- and of a day it makes what is answered
+pub end-tried : {c : ℕ} {K : Calendar} → Listed c K → (n : ℕ) → n < 2 ^ 32 → endTried c (inRange n) ≡ packedDay (onDay K n)
+unfolding endTried tryEnd
+end-tried {c} {K} l n s = rw (l .row, end-is l) (go (eqb c 7) (ltb lastDay n) refl (ltb 2380687 n) refl)
+  where
+    go : (t u : Bool) → ltb lastDay n ≡ u → (v : Bool) → ltb 2380687 n ≡ v
+        → tryEnd (endIf t) (cond u (5 * 2 ^ 32) n)
+        ≡ packedDay (cond (after (endIf t) n) (noDayAnswer 17) (cond u (noDayAnswer 5) (record { number = 0; day = n })))
+    go false true e v f = refl
+    go false false e v f = omega arith
+    go true true e true f = rw f refl
+    go true true e false f = absurd (omega (arith, ltb-true lastDay n e, ltb-false 2380687 n f))
+    go true false e true f = rw (f, lt-ltb n (2 ^ 32) s) refl
+    go true false e false f = rw f (omega arith)
+
+-- it is tried of calendar 7, and of no other
+pub end-of-7 : {c : ℕ} (r : ℕ) → c ≡ 7 → tryEnd (Option.some 2380687) r ≡ endTried c r
+unfolding endTried calendar lookup
+end-of-7 {c} r e = rw e refl
+
+pub end-of-other : {c : ℕ} (r : ℕ) → (c ≡ 7 → ⊥) → r ≡ endTried c r
+unfolding endTried tryEnd
+end-of-other {c} r n = go (calendar c) refl
+  where
+    go : (o : Option Calendar) → calendar c ≡ o → r ≡ ofListed o r (λ K. tryEnd (K .end) r)
+    go Option.none e = refl
+    go (Option.some K) e =
+        let l : Listed c K = record { row = e } in
+        rw (end-is l, ne-eqb c 7 n) refl
+
 -- ---- as code has them, from what was sought
 
 module _ {c : ℕ} {y : ℤ} (m : ℕ) {start days : ℕ} (s : Sought c y (λ K i. MonthOf K i (m - 1) start days) days) (h : m ≡ 0 → ⊥) (d : ℕ) where
-  there : (days ≡ 0 → ⊥) → (start ≤ 20000000) × (days ≤ 385) × (packedDay (dayIn start days d) ≡ packedDay (dayAnswer c y m d))
+  there : (days ≡ 0 → ⊥) → (x : YearIn c y) × (start ≤ 20000000) × (days ≤ 385) × (packedDay (dayIn (x .calendar) start days d) ≡ packedDay (dayAnswer c y m d))
   there z =
       let x = year-found s z in
       let b = found-small (x .0) m (x .1) h z in
-      (b .0, b .1, found-day (x .0) m (x .1) h z d)
+      (x .0, b .0, b .1, found-day (x .0) m (x .1) h z d)
 
   -- the position is not there, or has no such day
   pub not-found : (eqb d 0 || ltb days d) ≡ true → cond (eqb days 0) (packedNone c y) (4 * 2 ^ 32) ≡ packedDay (dayAnswer c y m d)
   not-found t =
       cond-elim (λ (n : ℕ). n ≡ packedDay (dayAnswer c y m d)) (eqb days 0) (packedNone c y) (4 * 2 ^ 32)
       (λ e. day-none c y m (nowhere-zero c y m (λ K l f. sym (s .there K l f .length-is) ∙ eqb-true days 0 e)) d)
-      (λ e. refused t ∙ there (eqb-false days 0 e) .2)
+      (λ e. let x = there (eqb-false days 0 e) in refused (x .0 .calendar) t ∙ x .3)
     where
-      refused : (eqb d 0 || ltb days d) ≡ true → 4 * 2 ^ 32 ≡ packedDay (dayIn start days d)
-      refused t = rw t refl
+      refused : (K : Calendar) → (eqb d 0 || ltb days d) ≡ true → 4 * 2 ^ 32 ≡ packedDay (dayIn K start days d)
+      refused K t = rw t refl
 
   -- or has it
   pub found : (eqb d 0 || ltb days d) ≡ false
-      → (1 ≤ d) × (d ≤ 385) × (start ≤ 20000000) × (cond (ltb lastDay (start + (d - 1))) (5 * 2 ^ 32) (start + (d - 1)) ≡ packedDay (dayAnswer c y m d))
+      → (1 ≤ d) × (d ≤ 385) × (start ≤ 20000000) × (endTried c (inRange (start + (d - 1))) ≡ packedDay (dayAnswer c y m d))
   found t =
       let o = neither (eqb d 0) (ltb days d) t in
       let l = ltb-false days d (o .1) in
       let k : 1 ≤ d = omega (arith, eqb-false d 0 (o .0)) in
       let x = there (λ z. omega arith) in
-      (k, omega (arith, l, x .1), x .0, given t (ltb lastDay (start + (d - 1))) refl ∙ x .2)
+      let e : d ≤ 385 = omega (arith, l, x .2) in
+      (k, e, x .1, end-tried (x .0 .listed) (start + (d - 1)) (omega (arith, x .1)) ∙ given (x .0 .calendar) t ∙ x .3)
     where
-      given : (eqb d 0 || ltb days d) ≡ false → (u : Bool) → ltb lastDay (start + (d - 1)) ≡ u
-          → cond u (5 * 2 ^ 32) (start + (d - 1)) ≡ packedDay (dayIn start days d)
-      given t true e = rw (t, e) refl
-      given t false e = rw (t, e) (omega arith)
+      given : (K : Calendar) → (eqb d 0 || ltb days d) ≡ false → packedDay (onDay K (start + (d - 1))) ≡ packedDay (dayIn K start days d)
+      given K t = rw t refl
 
 module _ {c : ℕ} {y : ℤ} (m n : ℕ) (s : Sought c y (λ K i. n ≡ lengthAt K i (m - 1)) n) where
   pub length-not-found : n ≡ 0 → noneLength c y ≡ lengthAnswer c y m
@@ -293,32 +351,33 @@ length-told c y m = go (calendar c)
 -- r is x packed: what its number in the high place says of x
 abbrev Unpacks : ℕ → DayAnswer → Type 0
 Unpacks r x = r ≡ packedDay x
-    → (r / 4294967296 ≤ 5) × (r / 4294967296 ≡ 0 → _≡_ {A = DayAnswer} (record { number = 0; day = r }) x)
+    → (5 < r / 4294967296 → r / 4294967296 ≡ 17) × (r / 4294967296 ≡ 0 → _≡_ {A = DayAnswer} (record { number = 0; day = r }) x)
     × ((k : ℕ) → r / 4294967296 ≡ suc k → noDayAnswer (suc k) ≡ x)
 
-unpacks-refused : (r j : ℕ) → suc j ≤ 5 → Unpacks r (noDayAnswer (suc j))
+unpacks-refused : (r j : ℕ) → (5 < suc j → suc j ≡ 17) → Unpacks r (noDayAnswer (suc j))
 unpacks-refused r j h e =
     let q : r / 4294967296 ≡ suc j = omega arith in
-    (omega arith, (λ z. absurd (omega arith)), λ k z. ap noDayAnswer (omega arith))
+    ((λ g. q ∙ h (omega arith)), (λ z. absurd (omega arith)), λ k z. ap noDayAnswer (omega arith))
 
 unpacks-day : (r n : ℕ) → n ≤ lastDay → Unpacks r (record { number = 0; day = n })
 unpacks-day r n h e =
     let q : r ≡ n = omega arith in
-    (omega arith, (λ z. ap (λ (k : ℕ). record { number = 0; day = k }) q), λ k z. absurd (omega arith))
+    ((λ g. absurd (omega arith)), (λ z. ap (λ (k : ℕ). record { number = 0; day = k }) q), λ k z. absurd (omega arith))
 
 pub unpacks : (c : ℕ) (y : ℤ) (m d r : ℕ) → Unpacks r (dayAnswer c y m d)
 unfolding dayAnswer dayFor
 unpacks c y m d r = go (calendar c)
   where
     go : (o : Option Calendar) → Unpacks r (ofListed o (noDayAnswer 1) (λ K. dayFor K y m d))
-    go Option.none = unpacks-refused r 0 (omega arith)
+    go Option.none = unpacks-refused r 0 (λ g. omega arith)
     go (Option.some K) =
-        cond-elim (Unpacks r) (yearOut K y) _ _ (λ h. unpacks-refused r 1 (omega arith))
-        (λ h. cond-elim (Unpacks r) (noMonth K y m) _ _ (λ h. unpacks-refused r 2 (omega arith))
-        (λ h. cond-elim (Unpacks r) (noDay K y m d) _ _ (λ h. unpacks-refused r 3 (omega arith))
-        (λ h. cond-elim (Unpacks r) (dayOut K (dayNumber K y m d)) _ _ (λ h. unpacks-refused r 4 (omega arith))
+        cond-elim (Unpacks r) (yearOut K y) _ _ (λ h. unpacks-refused r 1 (λ g. omega arith))
+        (λ h. cond-elim (Unpacks r) (noMonth K y m) _ _ (λ h. unpacks-refused r 2 (λ g. omega arith))
+        (λ h. cond-elim (Unpacks r) (noDay K y m d) _ _ (λ h. unpacks-refused r 3 (λ g. omega arith))
+        (λ h. cond-elim (Unpacks r) (ended K (dayNumber K y m d)) _ _ (λ h. unpacks-refused r 16 (λ g. refl))
+        (λ h. cond-elim (Unpacks r) (dayOut K (dayNumber K y m d)) _ _ (λ h. unpacks-refused r 4 (λ g. omega arith))
         (λ h. unpacks-day r (dayNumber K y m d)
-        (ltb-false lastDay (dayNumber K y m d) (neither (ltb lastDay (dayNumber K y m d)) (ltb (dayNumber K y m d) (K .firstDay)) h .0))))))
+        (ltb-false lastDay (dayNumber K y m d) (neither (ltb lastDay (dayNumber K y m d)) (ltb (dayNumber K y m d) (K .firstDay)) h .0)))))))
 
 -- and its two fields
 pub fields : (c : ℕ) (y : ℤ) (m d r : ℕ) → r ≡ packedDay (dayAnswer c y m d)
@@ -330,7 +389,7 @@ fields c y m d r e = go (r / 4294967296) refl (unpacks c y m d r e)
     both-are f g = λ i. record { number = f i; day = g i }
 
     go : (k : ℕ) → r / 4294967296 ≡ k
-        → (r / 4294967296 ≤ 5) × (r / 4294967296 ≡ 0 → _≡_ {A = DayAnswer} (record { number = 0; day = r }) (dayAnswer c y m d))
+        → (5 < r / 4294967296 → r / 4294967296 ≡ 17) × (r / 4294967296 ≡ 0 → _≡_ {A = DayAnswer} (record { number = 0; day = r }) (dayAnswer c y m d))
         × ((k : ℕ) → r / 4294967296 ≡ suc k → noDayAnswer (suc k) ≡ dayAnswer c y m d)
         → _≡_ {A = DayAnswer} (record { number = r / 4294967296; day = r % 4294967296 }) (dayAnswer c y m d)
     go zero f u = both-are f (omega arith) ∙ u .1 f
@@ -338,85 +397,104 @@ fields c y m d r e = go (r / 4294967296) refl (unpacks c y m d r e)
 
 -- ---- day to date
 
+-- in a calendar: where the month is 0 there is no date, and why not
+module _ {c : ℕ} {K : Calendar} (l : Listed c K) (n : ℕ) where
+  -- a day that has a date
+  month-from-1 : K .firstDay ≤ n → n ≤ lastOf K → 1 ≤ dateFor K n .month
+  month-from-1 f k =
+      let g = counted (years K) (has-days (listed-sound l .bounded)) (n - K .firstDay) in
+      omega (arith, ap (λ (a : DateAnswer). a .month) (answered K n f k), g .0 .month-from-1)
+
+  why-not : dateFor K n .month ≡ 0 → dateFor K n ≡ noDateAnswer (whyNot K n)
+  unfolding dateFor
+  why-not z = go (decLt lastDay n) (decLt (lastOf K) n)
+    where
+      go : Dec (lastDay < n) → Dec (lastOf K < n) → dateFor K n ≡ noDateAnswer (whyNot K n)
+      go (yes h) b = rw (lt-ltb lastDay n h) refl
+      go (no h) (yes k) =
+          rw (
+            le-ltb lastDay n (omega arith),
+            le-ltb n (K .firstDay) (omega (arith, listed-sound l .to-last)),
+            lt-ltb (lastOf K) n k,
+            past-end (K .end) k (omega arith),
+          ) refl
+      go (no h) (no k) = early (decLt n (K .firstDay))
+        where
+          early : Dec (n < K .firstDay) → dateFor K n ≡ noDateAnswer (whyNot K n)
+          early (yes f) = rw (le-ltb lastDay n (omega arith), lt-ltb n (K .firstDay) f, le-ltb (lastOf K) n (omega arith)) refl
+          early (no f) = absurd (omega (arith, month-from-1 (omega arith) (omega arith)))
+
+  -- after the last day, and before the first
+  late-month : lastOf K < n → dateFor K n .month ≡ 0
+  unfolding dateFor
+  late-month h = go (decLt lastDay n)
+    where
+      go : Dec (lastDay < n) → dateFor K n .month ≡ 0
+      go (yes k) = rw (lt-ltb lastDay n k) refl
+      go (no k) = cond-elim (λ (a : DateAnswer). a .month ≡ 0) (dayOut K n) _ _ (λ e. refl) (λ e. rw (past-end (K .end) h (omega arith)) refl)
+
+  early-month : n ≤ lastDay → n < K .firstDay → dateFor K n .month ≡ 0
+  unfolding dateFor
+  early-month k h = rw (le-ltb lastDay n k, lt-ltb n (K .firstDay) h) refl
+
+  -- the date that was found is the one that is answered
+  placed-date : {y : ℤ} {m d : ℕ} → PlaceTo K (lastOf K) n y m d
+      → (m ≡ dateFor K n .month) × ((m ≡ 0 → ⊥) → (y ≡ dateFor K n .year) × (d ≡ dateFor K n .day))
+  placed-date {y} {m} {d} p = go (decLt (lastOf K) n) (decLt n (K .firstDay))
+    where
+      go : Dec (lastOf K < n) → Dec (n < K .firstDay) → (m ≡ dateFor K n .month) × ((m ≡ 0 → ⊥) → (y ≡ dateFor K n .year) × (d ≡ dateFor K n .day))
+      go (yes k) b = (p .late k ∙ sym (late-month k), λ e. absurd (e (p .late k)))
+      go (no k) (yes h) =
+          let z = p .in-time (omega arith) .early h in
+          (z ∙ sym (early-month (last-in (K .end) (omega arith) .0) h), λ e. absurd (e z))
+      go (no k) (no h) =
+          let D = p .in-time (omega arith) .there (omega arith) in
+          rw (answered K n (omega arith) (omega arith)) (D .month, λ e. (D .year, D .day))
+
+-- the date of a day that is not too late, of a calendar that did not end
+pub to-last : {K : Calendar} {n : ℕ} {y : ℤ} {m d : ℕ} → n ≤ lastDay → PlaceOf K n y m d → PlaceTo K lastDay n y m d
+to-last h p = record { late = λ l. absurd (omega arith); in-time = λ l. p }
+
 module _ (c n : ℕ) where
-  out : ((K : Calendar) → Listed c K → dayOut K n ≡ true) → noDate c ≡ dateAnswer c n
-  unfolding listed dateAnswer dateFor
-  out h = go (calendar c) refl
+  -- what holds of the refusal of a number that is not listed, and of what its calendar answers
+  of-answer : (P : DateAnswer → Type 0) → (calendar c ≡ Option.none → P (noDateAnswer 1)) → OfListed c (λ K. P (dateFor K n)) → P (dateAnswer c n)
+  unfolding dateAnswer
+  of-answer P r f = go (calendar c) refl
     where
-      go : (o : Option Calendar) → calendar c ≡ o
-          → cond (ofListed o false (λ K. true)) (noDateAnswer 5) (noDateAnswer 1) ≡ ofListed o (noDateAnswer 1) (λ K. dateFor K n)
-      go Option.none e = refl
-      go (Option.some K) e = rw (h K (record { row = e })) refl
+      go : (o : Option Calendar) → calendar c ≡ o → P (ofListed o (noDateAnswer 1) (λ K. dateFor K n))
+      go Option.none e = r e
+      go (Option.some K) e = f K (record { row = e })
 
-  pub late-date : lastDay < n → noDate c ≡ dateAnswer c n
-  late-date h = out (λ K l. rw (lt-ltb lastDay n h) refl)
+  pub late-date : {y : ℤ} {m d : ℕ} → m ≡ 0 → lastDay < n → Found c n y m d
+  late-date {y} {m} {d} z h =
+      record {
+        month = of-answer (λ a. m ≡ a .month) (λ e. z) (λ K l. z ∙ sym (late-month l n (omega (arith, last-small (K .end)))));
+        rest = λ e. absurd (e z);
+      }
 
-  -- as code meets them: with month 0, and with another
-  module _ {y : ℤ} {m d : ℕ} (l : n ≤ lastDay) (p : Answered c (λ K. PlaceOf K n y m d) m) where
-    month-there : (K : Calendar) → Listed c K → K .firstDay ≤ n → 1 ≤ m
-    month-there K t f =
-        let g = counted (years K) (has-days (listed-sound t .bounded)) (n - K .firstDay) in
-        omega (arith, p .on K t .there f .month, g .0 .month-from-1)
-
-    pub lost-date : m ≡ 0 → noDate c ≡ dateAnswer c n
-    lost-date e = out (λ K t. early K t (decLt n (K .firstDay)))
-      where
-        early : (K : Calendar) → Listed c K → Dec (n < K .firstDay) → dayOut K n ≡ true
-        early K t (yes h) = rw (le-ltb lastDay n l, lt-ltb n (K .firstDay) h) refl
-        early K t (no h) = absurd (omega (arith, month-there K t (omega arith)))
-
-    pub found-date : (m ≡ 0 → ⊥) → _≡_ {A = DateAnswer} (record { number = 0; year = y; month = m; day = d }) (dateAnswer c n)
-    unfolding dateAnswer dateFor
-    found-date e = go (calendar c) refl
-      where
-        later : (K : Calendar) → Listed c K → Dec (n < K .firstDay)
-            → _≡_ {A = DateAnswer} (record { number = 0; year = y; month = m; day = d }) (dateFor K n)
-        later K t (yes h) = absurd (e (p .on K t .early h))
-        later K t (no h) =
-            let D = p .on K t .there (omega arith) in
-            rw (le-ltb lastDay n l, le-ltb n (K .firstDay) (omega arith)) (λ j. record { number = 0; year = D .year j; month = D .month j; day = D .day j })
-
-        go : (o : Option Calendar) → calendar c ≡ o
-            → _≡_ {A = DateAnswer} (record { number = 0; year = y; month = m; day = d }) (ofListed o (noDateAnswer 1) (λ K. dateFor K n))
-        go Option.none f = absurd (e (p .off f))
-        go (Option.some K) f = later K (record { row = f }) (decLt n (K .firstDay))
-
--- the same as one statement
-module _ (c n : ℕ) where
-  pub no-date-found : {y : ℤ} {m d : ℕ} → m ≡ 0 → noDate c ≡ dateAnswer c n → Found c n y m d
-  no-date-found z e = record { month = z ∙ sym (month-0 (listed c)) ∙ ap (λ (a : DateAnswer). a .month) e; rest = λ h. absurd (h z) }
-    where
-      month-0 : (t : Bool) → cond t (noDateAnswer 5) (noDateAnswer 1) .month ≡ 0
-      month-0 true = refl
-      month-0 false = refl
-
-  pub date-found : {y : ℤ} {m d : ℕ} → n ≤ lastDay → Answered c (λ K. PlaceOf K n y m d) m → Found c n y m d
-  date-found {y} {m} {d} l p = go (decLt 0 m)
-    where
-      go : Dec (0 < m) → Found c n y m d
-      go (yes h) =
-          let e = found-date c n l p (λ z. omega arith) in
-          record {
-            month = ap (λ (a : DateAnswer). a .month) e;
-            rest = λ z. (ap (λ (a : DateAnswer). a .year) e, ap (λ (a : DateAnswer). a .day) e);
-          }
-      go (no h) = let z : m ≡ 0 = omega arith in no-date-found z (lost-date c n l p z)
+  pub date-found : {y : ℤ} {m d : ℕ} → Answered c (λ K. PlaceTo K (lastOf K) n y m d) m → Found c n y m d
+  date-found {y} {m} {d} p =
+      record {
+        month = of-answer (λ a. m ≡ a .month) (p .off) (λ K l. placed-date l n (p .on K l) .0);
+        rest = of-answer (λ a. (m ≡ 0 → ⊥) → (y ≡ a .year) × (d ≡ a .day)) (λ e h. absurd (h (p .off e))) (λ K l. placed-date l n (p .on K l) .1);
+      }
 
   -- and back: it is refused where its month is 0, and only there
-  pub date-told : (dateAnswer c n .month ≡ 0 → noDate c ≡ dateAnswer c n) × ((dateAnswer c n .month ≡ 0 → ⊥) → 0 ≡ dateAnswer c n .number)
-  unfolding listed dateAnswer dateFor
-  date-told = go (calendar c) refl
+  pub date-refused : dateAnswer c n .month ≡ 0
+      → (calendar c ≡ Option.none → noDateAnswer 1 ≡ dateAnswer c n) × OfListed c (λ K. noDateAnswer (whyNot K n) ≡ dateAnswer c n)
+  date-refused z = ((λ e. rw (none-asked e) refl), λ K l. sym (date-asked l n ∙ why-not l n (sym (ap (λ (a : DateAnswer). a .month) (date-asked l n)) ∙ z)))
     where
-      Tells : DateAnswer → DateAnswer → Type 0
-      Tells w x = (x .month ≡ 0 → w ≡ x) × ((x .month ≡ 0 → ⊥) → 0 ≡ x .number)
+      none-asked : calendar c ≡ Option.none → dateAnswer c n ≡ noDateAnswer 1
+      none-asked e = of-answer (λ a. a ≡ noDateAnswer 1) (λ f. refl) (λ K l. never (sym (l .row) ∙ e))
 
-      in-range : (K : Calendar) → Listed c K → (t : Bool) → Tells (noDateAnswer 5) (cond t (noDateAnswer 5) (dated K (dateOn K n)))
-      in-range K l true = ((λ z. refl), λ h. absurd (h refl))
-      in-range K l false =
-          let g = counted (years K) (has-days (listed-sound l .bounded)) (n - K .firstDay) in
-          ((λ z. absurd (omega (arith, g .0 .month-from-1))), λ h. refl)
-
-      go : (o : Option Calendar) → calendar c ≡ o
-          → Tells (cond (ofListed o false (λ K. true)) (noDateAnswer 5) (noDateAnswer 1)) (ofListed o (noDateAnswer 1) (λ K. dateFor K n))
-      go Option.none e = ((λ z. refl), λ h. absurd (h refl))
-      go (Option.some K) e = in-range K (record { row = e }) (dayOut K n)
+  pub date-given : (dateAnswer c n .month ≡ 0 → ⊥) → 0 ≡ dateAnswer c n .number
+  unfolding dateFor
+  date-given =
+      of-answer (λ a. (a .month ≡ 0 → ⊥) → 0 ≡ a .number) (λ e h. absurd (h refl))
+      (λ K l. in-range K (dayOut K n) (ended K n))
+    where
+      in-range : (K : Calendar) (t u : Bool)
+          → let a = cond t (noDateAnswer 5) (cond u (noDateAnswer 17) (dated K (dateOn K n))) in (a .month ≡ 0 → ⊥) → 0 ≡ a .number
+      in-range K true u h = absurd (h refl)
+      in-range K false true h = absurd (h refl)
+      in-range K false false h = refl

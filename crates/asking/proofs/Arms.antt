@@ -6,7 +6,7 @@ use mathlib.Core.Bool.{Bool, true, false, cond, _||_, true≢false}
 use Prim.Native.Nat.{ℕ, zero, suc, _+_, _-_, _/_, _%_, _^_, _≤_, _<_}
 use native.Mathlib.Decide.{decLt}
 use native.Mathlib.Omega.{arith}
-use borrow.Author.Tests.{lt-ltb, le-ltb, ne-eqb, eqb-true}
+use borrow.Author.Tests.{lt-ltb, le-ltb, ne-eqb, eq-eqb, eqb-true}
 use lib.Dec.{eqb}
 use lib.IntN.{ℤ, pos, negsuc}
 use lib.Signed.{ltZ}
@@ -14,11 +14,12 @@ use Rattle.basics.specs.Every.{every, All}
 use Rattle.basics.proofs.Cases.{cond-elim, neither}
 use Rattle.basics.proofs.Every.{every-at}
 use Rattle.counting.specs.Years.{yearAt, yearsFrom}
-use Rattle.counting.specs.Answers.{Calendar, lastYear, yearOut}
+use Rattle.counting.specs.Answers.{Calendar, lastYear, yearOut, lastOf}
 use Rattle.counting.proofs.Signs.{not-before, place-back}
 use Rattle.calendar_rules.specs.Calendars.{table, lookup, calendar, Listed}
 use Rattle.calendar_rules.specs.Answers.{ofListed}
 use Rattle.calendar_rules.specs.Given.{IsListed}
+use Rattle.calendar_rules.proofs.Claims.{last-day}
 use Rattle.calendar_rules.proofs.Given.{is-listed}
 use Rattle.calendar_rules.proofs.Listed.{not-listed, found-row}
 use Rattle.asking.specs.Steps.{listed, OfListed, Answered, Sought}
@@ -132,6 +133,14 @@ before-first c y K l e = rw (← first-is c K l) (cond-elim (λ (z : ℤ). ltZ y
     below : (y : ℤ) → ltZ y (negsuc 4711) ≡ true → ltZ y (pos 1) ≡ true
     below (pos n) e = absurd (true≢false (sym e))
     below (negsuc n) e = refl
+
+-- the last days
+module _ {c : ℕ} {K : Calendar} (l : Listed c K) where
+  pub last-ended : c ≡ 7 → lastOf K ≡ 2380687
+  last-ended e = last-day l ∙ ap {B = ℕ} (λ (t : Bool). cond t 2380687 5373484) (eq-eqb c 7 e)
+
+  pub last-of-all : (c ≡ 7 → ⊥) → lastOf K ≡ 5373484
+  last-of-all n = last-day l ∙ ap {B = ℕ} (λ (t : Bool). cond t 2380687 5373484) (ne-eqb c 7 n)
 
 -- ---- a position, or its length, that was sought of the year that is y years after -4712
 

@@ -1,13 +1,13 @@
 -- For code: the answers as plain numbers, and in steps: the position of a year, the day in it. Nobody has to believe this page.
 use Prim.Native.Nat.{ℕ, _+_, _-_, _*_, _^_}
-use mathlib.Core.Bool.{Bool, true, false, cond, not, _||_}
+use mathlib.Core.Bool.{Bool, true, false, cond, not, _&&_, _||_}
 use mathlib.Core.Option.{Option}
 use mathlib.Core.Path.{_≡_}
 use lib.Dec.{eqb, ltb}
 use lib.IntN.{ℤ, negsuc}
 use lib.Signed.{ltZ}
 use Rattle.counting.specs.Years.{yearsFrom}
-use Rattle.counting.specs.Answers.{Calendar, DayAnswer, noDayAnswer, DateAnswer, noDateAnswer, LengthAnswer, noLengthAnswer, yearOut, lastDay, lastYear}
+use Rattle.counting.specs.Answers.{Calendar, DayAnswer, noDayAnswer, LengthAnswer, noLengthAnswer, lastDay, lastYear, yearOut, ended, lastOf}
 use Rattle.calendar_rules.specs.Calendars.{calendar, Listed}
 use Rattle.calendar_rules.specs.Answers.{ofListed, dateAnswer}
 
@@ -51,16 +51,31 @@ pub record Sought (c : ℕ) (y : ℤ) (P : Calendar → ℕ → Type 0) (days : 
   pub out : OfListed c (λ K. yearOut K y ≡ true → days ≡ 0)
   pub there : OfListed c (λ K. yearOut K y ≡ false → P K (yearsFrom (K .firstYear) y))
 
--- day d of a position that begins on day b and has l days
-abbrev pub dayIn : ℕ → ℕ → ℕ → DayAnswer
-dayIn b l d =
-    cond (eqb d 0 || ltb l d) (noDayAnswer 4)
-    (cond (ltb lastDay (b + (d - 1))) (noDayAnswer 5)
-    (record { number = 0; day = b + (d - 1) }))
+-- a day of a date that the calendar has: 17 and 5, which are tried
+abbrev pub onDay : Calendar → ℕ → DayAnswer
+onDay K n =
+    cond (ended K n) (noDayAnswer 17)
+    (cond (ltb lastDay n) (noDayAnswer 5)
+    (record { number = 0; day = n }))
 
--- a day that has no date, since it is out of range or the calendar is not listed
-abbrev pub noDate : ℕ → DateAnswer
-noDate c = cond (listed c) (noDateAnswer 5) (noDateAnswer 1)
+-- the same as one number in two steps: 5 is tried on the day, and 17 on the day or on what refused it
+abbrev pub inRange : ℕ → ℕ
+inRange n = cond (ltb lastDay n) (5 * 2 ^ 32) n
+
+unfoldable pub tryEnd : Option ℕ → ℕ → ℕ
+tryEnd Option.none r = r
+tryEnd (Option.some e) r = cond (ltb e r && (ltb r (2 ^ 32) || eqb r (5 * 2 ^ 32))) (17 * 2 ^ 32) r
+
+unfoldable pub endTried : ℕ → ℕ → ℕ
+endTried c r = ofListed (calendar c) r (λ K. tryEnd (K .end) r)
+
+-- day d of a position that begins on day b and has l days
+abbrev pub dayIn : Calendar → ℕ → ℕ → ℕ → DayAnswer
+dayIn K b l d = cond (eqb d 0 || ltb l d) (noDayAnswer 4) (onDay K (b + (d - 1)))
+
+-- why a day has no date: it is too late, or after the calendar's end, or else too early
+abbrev pub whyNot : Calendar → ℕ → ℕ
+whyNot K n = cond (ltb lastDay n) 5 (cond (ltb (lastOf K) n) 17 5)
 
 -- the date that was found of day n: month 0 where it is refused, and then year and day are open
 pub record Found (c n : ℕ) (y : ℤ) (m d : ℕ) : Type 0 where

@@ -8,7 +8,7 @@ use lib.IntN.{ℤ, pos}
 use Rattle.basics.proofs.Cases.{cond-elim}
 use Rattle.refusals.specs.Number.{Refused}
 use Rattle.counting.specs.Answers.{Calendar, DayAnswer, DateAnswer, LengthAnswer, noDayAnswer, noDateAnswer, noLengthAnswer}
-use Rattle.counting.specs.Answers.{yearOut, noMonth, noDay, dayOut, dayNumber, dayFor, dateFor, lengthFor}
+use Rattle.counting.specs.Answers.{yearOut, noMonth, noDay, dayOut, ended, dayNumber, dayFor, dateFor, lengthFor}
 use Rattle.calendar_rules.specs.Calendars.{calendar}
 use Rattle.calendar_rules.specs.Answers.{ofListed, dayAnswer, dateAnswer, lengthAnswer}
 
@@ -33,7 +33,8 @@ day-zero c y m d =
     (λ K. cond-elim DayZero (yearOut K y) _ _ (λ e. no-day 2)
     (λ e. cond-elim DayZero (noMonth K y m) _ _ (λ e. no-day 3)
     (λ e. cond-elim DayZero (noDay K y m d) _ _ (λ e. no-day 4)
-    (λ e. cond-elim DayZero (dayOut K (dayNumber K y m d)) _ _ (λ e. no-day 5) (λ e. record { zero = λ h. absurd (h refl) })))))
+    (λ e. cond-elim DayZero (ended K (dayNumber K y m d)) _ _ (λ e. no-day 17)
+    (λ e. cond-elim DayZero (dayOut K (dayNumber K y m d)) _ _ (λ e. no-day 5) (λ e. record { zero = λ h. absurd (h refl) }))))))
 
 -- ---- day to date
 
@@ -47,7 +48,8 @@ pub date-zero : (c n : ℕ) → DateZero (dateAnswer c n)
 unfolding dateAnswer dateFor
 date-zero c n =
     listed-elim DateZero (calendar c) _ _ (no-date 1)
-    (λ K. cond-elim DateZero (dayOut K n) _ _ (λ e. no-date 5) (λ e. record { zero = λ h. absurd (h refl) }))
+    (λ K. cond-elim DateZero (dayOut K n) _ _ (λ e. no-date 5)
+    (λ e. cond-elim DateZero (ended K n) _ _ (λ e. no-date 17) (λ e. record { zero = λ h. absurd (h refl) })))
 
 -- ---- the length of a position
 

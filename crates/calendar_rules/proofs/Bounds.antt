@@ -12,11 +12,11 @@ use Rattle.basics.specs.Every.{every}
 use Rattle.basics.proofs.Cases.{both}
 use Rattle.basics.proofs.Every.{every-at}
 use Rattle.counting.specs.Calendar.{total, start, firstFrom}
-use Rattle.counting.specs.Answers.{years}
+use Rattle.counting.specs.Answers.{Calendar, years}
 use Rattle.counting.proofs.Totals.{total-take-le}
 use Rattle.counting.proofs.Starts as S
 use Rattle.hebrew.specs.Hebrew.{kinds}
-use Rattle.calendar_rules.specs.Calendars.{row, hebrew}
+use Rattle.calendar_rules.specs.Calendars.{hebrew}
 use Rattle.calendar_rules.proofs.HebrewYears.{hebrew-kind}
 
 -- 353 to 385 days, and the first position has some
@@ -58,12 +58,12 @@ module _ {L : ℕ → List ℕ} (y : Bounded L) where
 unfoldable pub bothWithin : (Bool → List ℕ) → Bool
 bothWithin positions = within (positions false) && within (positions true)
 
-pub row-bounded : (first : ℤ) (day : ℕ) (positions : Bool → List ℕ) (leap : ℤ → Bool) → bothWithin positions ≡ true
-    → Bounded (years (row first day positions leap))
+pub row-bounded : (K : Calendar) (positions : Bool → List ℕ) (leap : ℤ → Bool) → ((y : ℤ) → K .lengths y ≡ positions (leap y)) → bothWithin positions ≡ true
+    → Bounded (years K)
 unfolding years bothWithin
-row-bounded first day positions leap e =
+row-bounded K positions leap same e =
     let b = both (within (positions false)) (within (positions true)) e in
-    record { each = λ i. go b (leap _) }
+    record { each = λ i. ap within (same _) ∙ go b (leap _) }
   where
     go : (within (positions false) ≡ true) × (within (positions true) ≡ true) → (t : Bool) → within (positions t) ≡ true
     go b true = b .1

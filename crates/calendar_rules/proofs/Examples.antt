@@ -1,15 +1,16 @@
 -- The worked examples of specs/Examples.antt, computed: the days of the years by counting them one by one.
-use mathlib.Core.Path.{_≡_, refl}
-use lib.IntN.{pos}
+use mathlib.Core.Path.{_≡_, refl, sym, ap, _∙_}
+use Prim.Native.Nat.{ℕ}
+use lib.IntN.{ℤ, pos}
 use Rattle.basics.specs.Every.{All}
 use Rattle.counting.specs.Calendar.{total, start, dayOf, firstFrom, newYear, dateAt}
-use Rattle.counting.specs.Answers.{years, dayFor, dateFor, lengthFor}
+use Rattle.counting.specs.Answers.{Calendar, years, DayAnswer, dayFor, dateFor, lengthFor}
 use Rattle.counting.proofs.Claims.{there-and-back}
 use Rattle.hebrew.specs.Hebrew.{leap, monthsIn, monthsBefore, moon, moonDay, moonHour, secondApplies, thirdApplies, moved, fourthApplies, fourth, ofTotal}
 use Rattle.hebrew.specs.Hebrew.{newYear as hebrewNewYear, lengths as hebrewLengths}
-use Rattle.calendar_rules.specs.Calendars.{gregorian, lookup, calendar, Listed}
+use Rattle.calendar_rules.specs.Calendars.{republican, gregorian, lookup, calendar, Listed}
 use Rattle.calendar_rules.specs.Answers.{dayAnswer, dateAnswer, lengthAnswer}
-use Rattle.calendar_rules.specs.Examples.{Answered, rows, limits}
+use Rattle.calendar_rules.specs.Examples.{Answered, rows, limits, ends}
 use Rattle.calendar_rules.proofs.Listed.{listed-sound, sound-proper}
 
 pub rows-answered : All Answered rows
@@ -18,14 +19,28 @@ unfolding dayAnswer calendar lookup dayFor years dayOf start total
 rows-answered =
     (refl, (refl, (refl, (refl, (refl, (refl, (refl, (refl, (refl, (refl, (refl, (refl, (refl, (refl, (refl, (refl, tt))))))))))))))))
 
--- the date of the last day, from the day of that date
+-- the date of a day, from the day of that date
+from-date : {c : ℕ} (K : Calendar) → Listed c K → (y : ℤ) (m d n : ℕ) → dayFor K y m d ≡ record { number = 0; day = n }
+    → dateAnswer c n ≡ record { number = 0; year = y; month = m; day = d }
+unfolding dateAnswer
+from-date K l y m d n e =
+    let back = there-and-back K (sound-proper (listed-sound l)) y m d (ap (λ (a : DayAnswer). a .number) e) in
+    rw (l .row) (ap (λ (a : DayAnswer). dateFor K (a .day)) (sym e) ∙ back)
+
 last-day : dateAnswer 11 5373484 ≡ record { number = 0; year = pos 9999; month = 12; day = 31 }
-unfolding dateAnswer calendar lookup dayFor years dayOf start total
-last-day =
-    let l : Listed 11 gregorian = record { row = refl } in
-    there-and-back gregorian (sound-proper (listed-sound l)) (pos 9999) 12 31 refl
+unfolding calendar lookup dayFor years dayOf start total
+last-day = from-date gregorian (record { row = refl }) (pos 9999) 12 31 5373484 refl
 
 pub limits-answered : All Answered limits
 unfolding dayAnswer dateAnswer lengthAnswer calendar lookup dayFor dateFor lengthFor years dayOf start total dateAt newYear firstFrom
 limits-answered =
     (refl, (refl, (last-day, (refl, (refl, (refl, (refl, (refl, (refl, (refl, (refl, (refl, (refl, (refl, (refl, (refl, tt))))))))))))))))
+
+end-day : dateAnswer 7 2380687 ≡ record { number = 0; year = pos 14; month = 4; day = 10 }
+unfolding calendar lookup dayFor years dayOf start total
+end-day = from-date republican (record { row = refl }) (pos 14) 4 10 2380687 refl
+
+pub ends-answered : All Answered ends
+unfolding dayAnswer dateAnswer lengthAnswer calendar lookup dayFor dateFor lengthFor years dayOf start total
+ends-answered =
+    (refl, (refl, (refl, (refl, (refl, (end-day, (refl, (refl, (refl, tt)))))))))

@@ -2,8 +2,9 @@
 use mathlib.Core.Path.{_≡_, refl, sym, ap, subst}
 use mathlib.Core.Bool.{Bool, true, false, cond, _&&_, _||_}
 use mathlib.Core.Logic.{inl, inr, ⊎-elim}
+use mathlib.Core.List.{List, _∷_}
 use mathlib.Core.Option.{Option}
-use Prim.Native.Nat.{ℕ, _<_}
+use Prim.Native.Nat.{ℕ}
 use native.Mathlib.Omega.{arith}
 use lib.Dec.{eqb, leb}
 use borrow.Author.Tests.{eqb-true, leb-true, le-leb, lt-leb, ne-eqb}
@@ -12,7 +13,7 @@ use Rattle.basics.proofs.Every.{every-at}
 use Rattle.basics.proofs.Order.{le-or-lt}
 use Rattle.counting.specs.Answers.{Calendar}
 use Rattle.counting.specs.Given.{Given}
-use Rattle.counting.specs.Given.Given.{done, lowest}
+use Rattle.counting.specs.Given.Given.{done, first, later}
 use Rattle.calendar_rules.specs.Calendars.{lookup, calendar, Listed}
 use Rattle.calendar_rules.specs.Answers.{ofListed}
 use Rattle.calendar_rules.specs.Given.{IsListed, Asked}
@@ -67,22 +68,20 @@ one-calendar l l′ = let e = l .row in let f = l′ .row in cc
 
 -- ---- the number that is given
 
-module _ {A : Type 0} (number : A → ℕ) (c : ℕ) (P : Calendar → ℕ → Type 0) (refusal : A) (answer : Calendar → A) where
-  pub asked : number refusal ≡ 1 → ((K : Calendar) → Given (P K) (number (answer K))) → Given (Asked c P) (number (ofListed (calendar c) refusal answer))
-  asked one g = go (calendar c) refl
+module _ {A : Type 0} (number : A → ℕ) (c : ℕ) (P : Calendar → ℕ → Type 0) (refusal : A) (answer : Calendar → A) {order : List ℕ} where
+  pub asked : number refusal ≡ 1 → ((K : Calendar) → ¬ P K 1) → ((K : Calendar) → Given (P K) order (number (answer K)))
+      → Given (Asked c P) (1 ∷ order) (number (ofListed (calendar c) refusal answer))
+  asked one n g = go (calendar c) refl
     where
-      none-lower : calendar c ≡ Option.none → (j : ℕ) → j < 1 → ¬ Asked c P j
-      none-lower e j h (not-listed n) = omega arith
-      none-lower e j h (in-calendar l a) = unlisted c e (is-listed l)
-
       same-calendar : {K : Calendar} → Listed c K → (k : ℕ) → Asked c P k → P K k
       same-calendar l k (not-listed n) = absurd (n (is-listed l))
       same-calendar l k (in-calendar l′ a) = subst (λ (C : Calendar). P C k) (one-calendar l′ l) a
 
-      in-it : {K : Calendar} → Listed c K → {k : ℕ} → Given (P K) k → Given (Asked c P) k
-      in-it l (done f) = done (λ j a. f j (same-calendar l j a))
-      in-it l (lowest a f) = lowest (in-calendar l a) (λ j h a. f j h (same-calendar l j a))
+      in-it : {K : Calendar} → Listed c K → {ks : List ℕ} {k : ℕ} → Given (P K) ks k → Given (Asked c P) ks k
+      in-it l done = done
+      in-it l (first a) = first (in-calendar l a)
+      in-it l (later f h) = later (λ a. f (same-calendar l _ a)) (in-it l h)
 
-      go : (o : Option Calendar) → calendar c ≡ o → Given (Asked c P) (number (ofListed o refusal answer))
-      go Option.none e = subst (Given (Asked c P)) (sym one) (lowest (not-listed (unlisted c e)) (none-lower e))
-      go (Option.some K) e = in-it (record { row = e }) (g K)
+      go : (o : Option Calendar) → calendar c ≡ o → Given (Asked c P) (1 ∷ order) (number (ofListed o refusal answer))
+      go Option.none e = subst (Given (Asked c P) (1 ∷ order)) (sym one) (first (not-listed (unlisted c e)))
+      go (Option.some K) e = let l : Listed c K = record { row = e } in later (λ a. n K (same-calendar l 1 a)) (in-it l (g K))

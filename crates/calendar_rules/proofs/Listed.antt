@@ -6,14 +6,17 @@ use mathlib.Core.Option.{Option}
 use Prim.Native.Nat.{ℕ, _≤_}
 use native.Mathlib.Omega.{arith}
 use lib.Dec.{eqb, leb}
+use lib.IntN.{ℤ}
 use lib.Signed.{mag}
 use borrow.Author.Tests.{leb-true, eqb-true, ne-eqb}
 use Rattle.counting.specs.Calendar.{total, firstFrom}
-use Rattle.counting.specs.Answers.{Calendar, years, Proper}
+use Rattle.counting.specs.Answers.{Calendar, years, lastOf, Proper}
 use Rattle.counting.proofs.Starts.{proper}
 use Rattle.basics.specs.Every.{All}
 use Rattle.basics.proofs.Cases.{both, _and_}
 use Rattle.calendar_rules.specs.Calendars.{table, lookup, calendar, Listed, none, remainder, gregorianLeap, islamicLeap, bahaiLeap, sakaLeap}
+use Rattle.calendar_rules.specs.Calendars.{egyptian, armenian, khwarizmian, persian, ethiopian, coptic, republican, macedonian, syrian, julian}
+use Rattle.calendar_rules.specs.Calendars.{gregorian, islamicA, islamicB, bahai, saka, hebrew}
 use Rattle.calendar_rules.specs.Calendars.{thirtiesAnd5, fiveAt9, thirtiesAnd5or6, fromSeptember, fromOctober, fromJanuary, inTurn, nineteens, sakaMonths}
 use Rattle.calendar_rules.proofs.Bounds.{Bounded, within, bothWithin, year-days, row-bounded, hebrew-bounded}
 
@@ -56,31 +59,49 @@ pub record Sound (K : Calendar) : Type 0 where
   pub bounded : Bounded (years K)
   pub first-year : mag (K .firstYear) ≤ 4711
   pub first-day : K .firstDay ≤ 2394647
+  pub to-last : K .firstDay ≤ lastOf K
 
-sound : {K : Calendar} → Bounded (years K) → (leb (mag (K .firstYear)) 4711 && leb (K .firstDay) 2394647) ≡ true → Sound K
-sound {K} y e =
-    let b = both (leb (mag (K .firstYear)) 4711) (leb (K .firstDay) 2394647) e in
-    record { bounded = y; first-year = leb-true (mag (K .firstYear)) 4711 (b .0); first-day = leb-true (K .firstDay) 2394647 (b .1) }
+-- its first year and its first day, in one computed test
+small : Calendar → Bool
+small K = leb (mag (K .firstYear)) 4711 && leb (K .firstDay) 2394647 && leb (K .firstDay) (lastOf K)
+
+sound : (K : Calendar) → Bounded (years K) → small K ≡ true → Sound K
+unfolding small
+sound K y e =
+    let b = both (leb (mag (K .firstYear)) 4711 && leb (K .firstDay) 2394647) (leb (K .firstDay) (lastOf K)) e in
+    let f = both (leb (mag (K .firstYear)) 4711) (leb (K .firstDay) 2394647) (b .0) in
+    record {
+      bounded = y;
+      first-year = leb-true (mag (K .firstYear)) 4711 (f .0);
+      first-day = leb-true (K .firstDay) 2394647 (f .1);
+      to-last = leb-true (K .firstDay) (lastOf K) (b .1);
+    }
+
+-- a row, by its lengths in common and leap years
+by-row : (K : Calendar) (positions : Bool → List ℕ) (leap : ℤ → Bool) → ((y : ℤ) → K .lengths y ≡ positions (leap y))
+    → bothWithin positions ≡ true → small K ≡ true
+    → Sound K
+by-row K positions leap same e f = sound K (row-bounded K positions leap same e) f
 
 rows-sound : All (λ (r : ℕ × Calendar). Sound (r .1)) table
-unfolding bothWithin within total firstFrom
+unfolding bothWithin within total firstFrom small
 rows-sound =
-    sound (row-bounded _ _ thirtiesAnd5 none refl) refl
-    and sound (row-bounded _ _ thirtiesAnd5 none refl) refl
-    and sound (row-bounded _ _ thirtiesAnd5 none refl) refl
-    and sound (row-bounded _ _ fiveAt9 none refl) refl
-    and sound (row-bounded _ _ thirtiesAnd5or6 (remainder 3 4) refl) refl
-    and sound (row-bounded _ _ thirtiesAnd5or6 (remainder 3 4) refl) refl
-    and sound (row-bounded _ _ thirtiesAnd5or6 (remainder 3 4) refl) refl
-    and sound (row-bounded _ _ fromSeptember (remainder 3 4) refl) refl
-    and sound (row-bounded _ _ fromOctober (remainder 3 4) refl) refl
-    and sound (row-bounded _ _ fromJanuary (remainder 0 4) refl) refl
-    and sound (row-bounded _ _ fromJanuary gregorianLeap refl) refl
-    and sound (row-bounded _ _ inTurn islamicLeap refl) refl
-    and sound (row-bounded _ _ inTurn islamicLeap refl) refl
-    and sound (row-bounded _ _ nineteens bahaiLeap refl) refl
-    and sound (row-bounded _ _ sakaMonths sakaLeap refl) refl
-    and sound hebrew-bounded refl
+    by-row egyptian thirtiesAnd5 none (λ y. refl) refl refl
+    and by-row armenian thirtiesAnd5 none (λ y. refl) refl refl
+    and by-row khwarizmian thirtiesAnd5 none (λ y. refl) refl refl
+    and by-row persian fiveAt9 none (λ y. refl) refl refl
+    and by-row ethiopian thirtiesAnd5or6 (remainder 3 4) (λ y. refl) refl refl
+    and by-row coptic thirtiesAnd5or6 (remainder 3 4) (λ y. refl) refl refl
+    and by-row republican thirtiesAnd5or6 (remainder 3 4) (λ y. refl) refl refl
+    and by-row macedonian fromSeptember (remainder 3 4) (λ y. refl) refl refl
+    and by-row syrian fromOctober (remainder 3 4) (λ y. refl) refl refl
+    and by-row julian fromJanuary (remainder 0 4) (λ y. refl) refl refl
+    and by-row gregorian fromJanuary gregorianLeap (λ y. refl) refl refl
+    and by-row islamicA inTurn islamicLeap (λ y. refl) refl refl
+    and by-row islamicB inTurn islamicLeap (λ y. refl) refl refl
+    and by-row bahai nineteens bahaiLeap (λ y. refl) refl refl
+    and by-row saka sakaMonths sakaLeap (λ y. refl) refl refl
+    and sound hebrew hebrew-bounded refl
     and tt
 
 pub listed-sound : {c : ℕ} {K : Calendar} → Listed c K → Sound K
@@ -89,3 +110,15 @@ listed-sound l = found-row (λ (r : ℕ × Calendar). Sound (r .1)) rows-sound l
 -- so counting's theorems are about it
 pub sound-proper : {K : Calendar} → Sound K → Proper K
 sound-proper {K} s = proper K 353 385 15222 (year-days (s .bounded)) (omega arith) (omega arith) (omega (arith, s .first-year))
+
+-- ---- the ends: calendar 7 has one, and no other
+
+abbrev pub endIf : Bool → Option ℕ
+endIf seven = cond seven (Option.some 2380687) Option.none
+
+rows-end : All (λ (r : ℕ × Calendar). r .1 .end ≡ endIf (eqb (r .0) 7)) table
+rows-end =
+    (refl, (refl, (refl, (refl, (refl, (refl, (refl, (refl, (refl, (refl, (refl, (refl, (refl, (refl, (refl, (refl, tt))))))))))))))))
+
+pub end-is : {c : ℕ} {K : Calendar} → Listed c K → K .end ≡ endIf (eqb c 7)
+end-is l = found-row (λ (r : ℕ × Calendar). r .1 .end ≡ endIf (eqb (r .0) 7)) rows-end l

@@ -1,5 +1,5 @@
 -- What is answered for a calendar's number, by the table of docs/RULES.md, "Answer numbers": 1 where the number is not listed, and else what the calendar
--- answers (`dayFor`, `dateFor`, `lengthFor` of crate counting). So date to day tries 1, 2, 3, 4, 5; day to date 1, 5; the length of a position 1, 2, 3.
+-- answers (`dayFor`, `dateFor`, `lengthFor` of crate counting). So date to day tries 1, 2, 3, 4, 17, 5; day to date 1, 5, 17; the length of a position 1, 2, 3.
 use Prim.Native.Nat.{ℕ}
 use mathlib.Core.Option.{Option}
 use lib.IntN.{ℤ}

@@ -74,3 +74,17 @@ limits =
     ∷ position 17 (pos 1) 1 (noLengthAnswer 1)
     ∷ position 19 (pos 1) 1 (noLengthAnswer 1)
     ∷ []
+
+-- 14/4/10 is the last Republican date. Later dates are refused 17, before 5 but after 2 and 4, and later days 17, after 5
+abbrev pub ends : List Example
+ends =
+    date 7 (pos 14) 4 10 (is 2380687)
+    ∷ date 7 (pos 14) 4 11 (noDayAnswer 17)
+    ∷ date 7 (pos 14) 4 31 (noDayAnswer 4)
+    ∷ date 7 (pos 20000) 1 1 (noDayAnswer 17)
+    ∷ date 7 (pos 20001) 1 1 (noDayAnswer 2)
+    ∷ day 7 2380687 (record { number = 0; year = pos 14; month = 4; day = 10 })
+    ∷ day 7 2380688 (noDateAnswer 17)
+    ∷ day 7 5373485 (noDateAnswer 5)
+    ∷ position 7 (pos 20000) 13 (has 5)
+    ∷ []

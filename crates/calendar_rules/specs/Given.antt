@@ -1,4 +1,4 @@
--- The table of docs/RULES.md, "Answer numbers", where a calendar is asked for by its number. `Given`, and what applies in a calendar, are those of crate
+-- The tables of docs/RULES.md, "Answer numbers", where a calendar is asked for by its number. `Given`, and what applies in a calendar, are those of crate
 -- counting.
 use Prim.Native.Nat.{ℕ, _≤_}
 use mathlib.Core.Path.{_≡_}
@@ -10,7 +10,7 @@ use Rattle.calendar_rules.specs.Calendars.{Listed}
 abbrev pub IsListed : ℕ → Type 0
 IsListed c = ((1 ≤ c) × (c ≤ 15)) ⊎ (c ≡ 18)
 
--- 1: calendar number not listed. The other numbers apply as in its calendar
+-- 1, which is tried first: calendar number not listed. The other numbers apply as in its calendar
 pub data Asked (c : ℕ) (Applies : Calendar → ℕ → Type 0) : ℕ → Type 0 where
   not-listed : ¬ IsListed c → Asked c Applies 1
   in-calendar : {K : Calendar} {k : ℕ} → Listed c K → Applies K k → Asked c Applies k

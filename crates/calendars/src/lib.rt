@@ -3,8 +3,10 @@
 use refusals::Refusal;
 ghost use mathlib.Core.Path.{_≡_};
 ghost use Rattle.calendar_rules.specs.Answers.{dayAnswer, dateAnswer, lengthAnswer};
-ghost use Rattle.asking.specs.Steps.{noneLength, noDate};
+ghost use Rattle.asking.specs.Steps.{noneLength};
 ghost use Rattle.calendars.specs.Paper.{dayPaper, datePaper, lengthPaper};
+
+const LAST_DAY: u64 = 5373484;
 
 // A date. Years are signed, and year 0 exists; months and days are counted from 1.
 pub struct Date {
@@ -42,7 +44,8 @@ pub fn date_to_day(calendar: u64, date: Date) -> Day
         2 => Day::Refused(Refusal::YearOutOfRange),
         3 => Day::Refused(Refusal::NoSuchMonth),
         4 => Day::Refused(Refusal::NoSuchDay),
-        _ => Day::Refused(Refusal::DayOutOfRange),
+        5 => Day::Refused(Refusal::DayOutOfRange),
+        _ => Day::Refused(Refusal::CalendarEnded),
     }
 }
 
@@ -69,22 +72,29 @@ pub fn position_length(calendar: u64, year: i64, position: u64) -> Length
 }
 
 // Why a day has no date.
-fn no_date(c: u64) -> Dated
-    ensures { λ r. ⌜ datePaper r ≡ noDate c ⌝ }
+fn no_date(c: u64, day: u64) -> Dated
+    requires { ⌜ dateAnswer c day .month ≡ 0 ⌝ }
+    ensures { λ r. ⌜ datePaper r ≡ dateAnswer c day ⌝ }
 {
-    if listing::is_listed(c) {
+    if !listing::is_listed(c) {
+        return Dated::Refused(Refusal::UnknownCalendar);
+    }
+    if LAST_DAY < day {
         return Dated::Refused(Refusal::DayOutOfRange);
     }
-    Dated::Refused(Refusal::UnknownCalendar)
+    if listing::last_day(c) < day {
+        return Dated::Refused(Refusal::CalendarEnded);
+    }
+    Dated::Refused(Refusal::DayOutOfRange)
 }
 
-// The date of a day. The refusals 1, 5 are tried.
+// The date of a day. The refusals 1, 5, 17 are tried.
 pub fn day_to_date(calendar: u64, day: u64) -> Dated
     ensures { λ r. ⌜ datePaper r ≡ dateAnswer calendar day ⌝ }
 {
     let p = dating::place(calendar, day);
     if p.month == 0 {
-        return no_date(calendar);
+        return no_date(calendar, day);
     }
     Dated::On(Date {
         year: p.year,

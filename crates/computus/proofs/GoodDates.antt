@@ -58,10 +58,13 @@ module _ (first : ℕ) (leap : ℤ → Bool) {c : ℕ} (l : Listed c (januaries 
   good m d hm hd h k =
       day-asked l (pos A) m d ∙ accept (januaries first leap) (pos A) m d (day first leap A m d)
       (record {
-        from-first = refl;
-        to-last = le-ltb 20000 A (omega arith);
-        valid = record { month-from-1 = hm; day-from-1 = hd; day-in-month = rw (lengths first leap A) h };
-        number = refl;
+        stands =
+            record {
+              from-first = refl;
+              to-last = le-ltb 20000 A (omega arith);
+              valid = record { month-from-1 = hm; day-from-1 = hd; day-in-month = rw (lengths first leap A) h };
+              number = refl;
+            };
         small = k;
       })
 

@@ -1,8 +1,10 @@
 -- The number of each answer is the one that the rules' table gives (specs/Given.antt).
-use mathlib.Core.Path.{_≡_, refl, subst}
-use mathlib.Core.Bool.{Bool, true, false, cond, _||_}
+use mathlib.Core.Path.{_≡_, refl, sym, subst}
+use mathlib.Core.Bool.{Bool, true, false, cond, _||_, true≢false}
+use mathlib.Core.List.{List, _∷_}
+use mathlib.Core.Option.{Option}
 use mathlib.Core.Logic.{_⊎_, inl, inr, ⊎-elim, _↔_}
-use Prim.Native.Nat.{ℕ, suc, _≤_, _<_}
+use Prim.Native.Nat.{ℕ, _≤_, _<_}
 use native.Mathlib.Omega.{arith}
 use lib.Dec.{eqb, ltb}
 use lib.IntN.{ℤ}
@@ -10,25 +12,32 @@ use lib.ListN.{length}
 use lib.Signed.{ltZ}
 use borrow.Author.Tests.{eqb-true, eqb-false, ltb-true, ltb-false}
 use Rattle.counting.specs.Answers.{Calendar, DayAnswer, DateAnswer, LengthAnswer, lastDay, lastYear, yearOut, lengthIn, monthZero, abovePositions}
-use Rattle.counting.specs.Answers.{noDaysThatYear, noMonth, noDay, dayOut, dayNumber, dateOn, dated, noDayAnswer, noDateAnswer, noLengthAnswer, dayFor}
-use Rattle.counting.specs.Answers.{dateFor, lengthFor}
-use Rattle.counting.specs.Given.{Given, OfDate, OfDay, OfPosition}
+use Rattle.counting.specs.Answers.{noDaysThatYear, noMonth, noDay, dayOut, after, ended, dayNumber, noDayAnswer, noDateAnswer, noLengthAnswer}
+use Rattle.counting.specs.Answers.{dayFor, dateFor, lengthFor}
+use Rattle.counting.specs.Given.{Given, dateOrder, dayOrder, positionOrder, OfDate, OfDay, OfPosition}
 use Rattle.counting.specs.Given.OfDate.{below-first, above-20000, month-0, above-positions, no-days, day-0, beyond-month, its-day}
-use Rattle.counting.specs.Given.OfDay.{above-5373484, before-first}
-use Rattle.counting.specs.Given.Given.{done, lowest}
+use Rattle.counting.specs.Given.OfDay.{above-5373484, before-first, after-end}
+use Rattle.counting.specs.Given.Given.{done, first, later}
+use Rattle.basics.specs.Every.{All}
 use Rattle.basics.proofs.Cases.{neither}
-use Rattle.basics.proofs.Order.{by-order}
 
 -- one number is given,
-one-given : {A : ℕ → Type 0} {j k : ℕ} → Given A j → Given A k → j ≡ k
-one-given (done f) (done g) = refl
-one-given (done f) (lowest a g) = absurd (f _ a)
-one-given (lowest a f) (done g) = absurd (g _ a)
-one-given {j = j} {k = k} (lowest a f) (lowest b g) = by-order j k (λ h. absurd (g j h a)) (λ e. e) (λ h. absurd (f k h b))
+one-given : {A : ℕ → Type 0} {order : List ℕ} {j k : ℕ} → Given A order j → Given A order k → j ≡ k
+one-given done done = refl
+one-given (first a) (first b) = refl
+one-given (first a) (later n g) = absurd (n a)
+one-given (later n g) (first a) = absurd (n a)
+one-given (later n g) (later m h) = one-given g h
 
 -- so what is given is given exactly
-pub exactly : {A : ℕ → Type 0} {n : ℕ} → Given A n → (k : ℕ) → (n ≡ k) ↔ Given A k
-exactly {A} g k = ((λ e. subst (Given A) e g), λ h. one-given g h)
+pub exactly : {A : ℕ → Type 0} {order : List ℕ} {n : ℕ} → Given A order n → (k : ℕ) → (n ≡ k) ↔ Given A order k
+exactly {A} {order} g k = ((λ e. subst (Given A order) e g), λ h. one-given g h)
+
+-- it is 0 or one of the order
+pub one-of : (P : ℕ → Type 0) {A : ℕ → Type 0} {order : List ℕ} {k : ℕ} → P 0 → All P order → Given A order k → P k
+one-of P z a done = z
+one-of P z a (first h) = a .0
+one-of P z a (later n g) = one-of P z (a .1) g
 
 -- where one test or the other holds
 either : {C : Type 0} (t u : Bool) → (t || u) ≡ true → (t ≡ true → C) → (u ≡ true → C) → C
@@ -39,30 +48,39 @@ either false u e f g = g e
 clash : {t : Bool} → t ≡ true → t ≡ false → ⊥
 clash e f = let z : _≡_ {A = ℕ} 0 1 = cc in omega arith
 
--- no number below k applies
-Clear : (ℕ → Type 0) → ℕ → Type 0
-Clear A k = (j : ℕ) → j < k → ¬ A j
-
 -- a number is tried: where its test holds it applies and is given, and where not it does not apply, and the next are tried
-tried : {R : Type 0} (number : R → ℕ) (A : ℕ → Type 0) (t : Bool) (refusal rest : R) → Clear A (number refusal)
-    → (t ≡ true → A (number refusal)) → (t ≡ false → ¬ A (number refusal)) → (Clear A (suc (number refusal)) → Given A (number rest))
-    → Given A (number (cond t refusal rest))
-unfolding Clear
-tried number A true refusal rest c f g h = lowest (f refl) c
-tried number A false refusal rest c f g h = h (λ j l a. by-order j (number refusal) (λ b. c j b a) (λ e. g refl (subst A e a)) (λ b. omega arith))
+tried : {R : Type 0} (number : R → ℕ) (A : ℕ → Type 0) (order : List ℕ) (t : Bool) (refusal rest : R)
+    → (t ≡ true → A (number refusal)) → (t ≡ false → ¬ A (number refusal)) → Given A order (number rest)
+    → Given A (number refusal ∷ order) (number (cond t refusal rest))
+tried number A order true refusal rest f g h = first (f refl)
+tried number A order false refusal rest f g h = later (g refl) h
 
--- where a choice is answered 0, a refusal was not chosen
-pub passed : {R : Type 0} (number : R → ℕ) (t : Bool) (refusal rest : R) → (number refusal ≡ 0 → ⊥) → number (cond t refusal rest) ≡ 0
-    → (t ≡ false) × (number rest ≡ 0)
+-- where a choice is answered k, a refusal of another number was not chosen
+pub passed : {R : Type 0} (number : R → ℕ) {k : ℕ} (t : Bool) (refusal rest : R) → (number refusal ≡ k → ⊥) → number (cond t refusal rest) ≡ k
+    → (t ≡ false) × (number rest ≡ k)
 passed number true refusal rest n e = absurd (n e)
 passed number false refusal rest n e = (refl, e)
 
 -- ---- day to date
 
+-- after an end, where there is one
+pub is-after : (o : Option ℕ) (n : ℕ) → after o n ≡ true → (e : ℕ) × (o ≡ Option.some e) × (e < n)
+is-after Option.none n h = absurd (true≢false (sym h))
+is-after (Option.some e) n h = (e, refl, ltb-true e n h)
+
+pub not-after : (o : Option ℕ) (n : ℕ) → after o n ≡ false → (e : ℕ) → o ≡ Option.some e → n ≤ e
+not-after Option.none n h e f = let z : _≡_ {A = ℕ} 0 1 = cc in absurd (omega arith)
+not-after (Option.some x) n h e f = let g : x ≡ e = cc in omega (arith, ltb-false x n h)
+
 module _ (K : Calendar) (n : ℕ) where
-  only-5 : {j : ℕ} → OfDay K n j → j ≡ 5
-  only-5 (above-5373484 f) = refl
-  only-5 (before-first f) = refl
+  from-5 : {j : ℕ} → OfDay K n j → 5 ≤ j
+  from-5 (above-5373484 f) = omega arith
+  from-5 (before-first f) = omega arith
+  from-5 (after-end e f) = omega arith
+
+  -- so not 1
+  pub no-1 : ¬ OfDay K n 1
+  no-1 a = omega (arith, from-5 a)
 
   late : Bool
   late = ltb lastDay n
@@ -79,11 +97,18 @@ module _ (K : Calendar) (n : ℕ) where
   not-5 e (above-5373484 f) = omega (arith, ltb-false lastDay n (neither late early e .0))
   not-5 e (before-first f) = omega (arith, ltb-false n (K .firstDay) (neither late early e .1))
 
-  pub date-given : Given (OfDay K n) (dateFor K n .number)
-  unfolding dateFor Clear
+  is-17 : ended K n ≡ true → OfDay K n 17
+  is-17 t = let a = is-after (K .end) n t in after-end (a .1) (a .2)
+
+  not-17 : ended K n ≡ false → ¬ OfDay K n 17
+  not-17 t (after-end {e} f h) = omega (arith, not-after (K .end) n t e f)
+
+  pub date-given : Given (OfDay K n) dayOrder (dateFor K n .number)
+  unfolding dateFor
   date-given =
-      tried (λ (a : DateAnswer). a .number) (OfDay K n) (dayOut K n) (noDateAnswer 5) (dated K (dateOn K n)) (λ j h a. omega (arith, only-5 a)) is-5 not-5
-      (λ c. done (λ j a. c j (omega (arith, only-5 a)) a))
+      let try = tried (λ (a : DateAnswer). a .number) (OfDay K n) in
+      try _ (dayOut K n) (noDateAnswer 5) _ is-5 not-5
+      (try _ (ended K n) (noDateAnswer 17) _ is-17 not-17 done)
 
 -- ---- date to day, and the length of a position
 
@@ -95,7 +120,7 @@ module _ (K : Calendar) (y : ℤ) (m d : ℕ) where
   not-2 : yearOut K y ≡ false → ¬ OfDate K y m d 2
   not-2 e (below-first f) = clash f (neither (ltZ y (K .firstYear)) (ltZ lastYear y) e .0)
   not-2 e (above-20000 f) = clash f (neither (ltZ y (K .firstYear)) (ltZ lastYear y) e .1)
-  not-2 e (its-day a) = omega (arith, only-5 K (dayNumber K y m d) a)
+  not-2 e (its-day a) = omega (arith, from-5 K (dayNumber K y m d) a)
 
   no-place : Bool
   no-place = monthZero m || abovePositions K y m
@@ -118,7 +143,7 @@ module _ (K : Calendar) (y : ℤ) (m d : ℕ) where
       go u v w (month-0 f) = u f
       go u v w (above-positions f) = omega arith
       go u v w (no-days f) = w f
-      go u v w (its-day a) = omega (arith, only-5 K (dayNumber K y m d) a)
+      go u v w (its-day a) = omega (arith, from-5 K (dayNumber K y m d) a)
 
   is-4 : noDay K y m d ≡ true → OfDate K y m d 4
   is-4 e = either (eqb d 0) (ltb (lengthIn K y m) d) e (λ f. day-0 (eqb-true d 0 f)) (λ f. beyond-month (ltb-true (lengthIn K y m) d f))
@@ -126,42 +151,43 @@ module _ (K : Calendar) (y : ℤ) (m d : ℕ) where
   not-4 : noDay K y m d ≡ false → ¬ OfDate K y m d 4
   not-4 e (day-0 f) = eqb-false d 0 (neither (eqb d 0) (ltb (lengthIn K y m) d) e .0) f
   not-4 e (beyond-month f) = omega (arith, ltb-false (lengthIn K y m) d (neither (eqb d 0) (ltb (lengthIn K y m) d) e .1))
-  not-4 e (its-day a) = omega (arith, only-5 K (dayNumber K y m d) a)
+  not-4 e (its-day a) = omega (arith, from-5 K (dayNumber K y m d) a)
 
-  not-its : dayOut K (dayNumber K y m d) ≡ false → ¬ OfDate K y m d 5
-  not-its e (its-day a) = not-5 K (dayNumber K y m d) e a
+  -- 5 and 17 only as to its day
+  of-day : {k : ℕ} → 5 ≤ k → OfDate K y m d k → OfDay K (dayNumber K y m d) k
+  of-day h (below-first f) = absurd (omega arith)
+  of-day h (above-20000 f) = absurd (omega arith)
+  of-day h (month-0 f) = absurd (omega arith)
+  of-day h (above-positions f) = absurd (omega arith)
+  of-day h (no-days f) = absurd (omega arith)
+  of-day h (day-0 f) = absurd (omega arith)
+  of-day h (beyond-month f) = absurd (omega arith)
+  of-day h (its-day a) = a
 
-  pub two-to-five : {j : ℕ} → OfDate K y m d j → (2 ≤ j) × (j ≤ 5)
-  two-to-five (below-first f) = omega arith
-  two-to-five (above-20000 f) = omega arith
-  two-to-five (month-0 f) = omega arith
-  two-to-five (above-positions f) = omega arith
-  two-to-five (no-days f) = omega arith
-  two-to-five (day-0 f) = omega arith
-  two-to-five (beyond-month f) = omega arith
-  two-to-five (its-day a) = omega (arith, only-5 K (dayNumber K y m d) a)
+  -- 1 does not apply
+  pub not-1 : ¬ OfDate K y m d 1
+  not-1 (its-day a) = omega (arith, from-5 K (dayNumber K y m d) a)
 
-  pub day-given : Given (OfDate K y m d) (dayFor K y m d .number)
-  unfolding dayFor Clear
+  pub day-given : Given (OfDate K y m d) dateOrder (dayFor K y m d .number)
+  unfolding dayFor
   day-given =
+      let n = dayNumber K y m d in
       let try = tried (λ (a : DayAnswer). a .number) (OfDate K y m d) in
-      try (yearOut K y) (noDayAnswer 2) _ (λ j h a. omega (arith, two-to-five a)) is-2 not-2
-      (λ c. try (noMonth K y m) (noDayAnswer 3) _ c is-3 not-3
-      (λ c. try (noDay K y m d) (noDayAnswer 4) _ c is-4 not-4
-      (λ c. try (dayOut K (dayNumber K y m d)) (noDayAnswer 5) _ c (λ e. its-day (is-5 K (dayNumber K y m d) e)) not-its
-      (λ c. done (λ j a. c j (omega (arith, two-to-five a)) a)))))
+      try _ (yearOut K y) (noDayAnswer 2) _ is-2 not-2
+      (try _ (noMonth K y m) (noDayAnswer 3) _ is-3 not-3
+      (try _ (noDay K y m d) (noDayAnswer 4) _ is-4 not-4
+      (try _ (ended K n) (noDayAnswer 17) _ (λ e. its-day (is-17 K n e)) (λ e a. not-17 K n e (of-day (omega arith) a))
+      (try _ (dayOut K n) (noDayAnswer 5) _ (λ e. its-day (is-5 K n e)) (λ e a. not-5 K n e (of-day (omega arith) a)) done))))
 
 module _ (K : Calendar) (y : ℤ) (m : ℕ) where
-  pub length-given : Given (OfPosition K y m) (lengthFor K y m .number)
-  unfolding lengthFor Clear
+  pub length-given : Given (OfPosition K y m) positionOrder (lengthFor K y m .number)
+  unfolding lengthFor
   length-given =
       let try = tried (λ (a : LengthAnswer). a .number) (OfPosition K y m) in
-      try (yearOut K y) (noLengthAnswer 2) _ (λ j h a. omega (arith, two-to-five K y m 0 (a .1 0)))
-      (λ e. (omega arith, λ d. is-2 K y m d e)) (λ e a. not-2 K y m 0 e (a .1 0))
-      (λ c. try (noMonth K y m) (noLengthAnswer 3) _ c (λ e. (omega arith, λ d. is-3 K y m d e)) (λ e a. not-3 K y m 0 e (a .1 0))
-      (λ c. done (λ j a. c j (omega (arith, a .0)) a)))
+      try _ (yearOut K y) (noLengthAnswer 2) _ (λ e d. is-2 K y m d e) (λ e a. not-2 K y m 0 e (a 0))
+      (try _ (noMonth K y m) (noLengthAnswer 3) _ (λ e d. is-3 K y m d e) (λ e a. not-3 K y m 0 e (a 0)) done)
 
-  length-passed : lengthFor K y m .number ≡ 0 → (yearOut K y ≡ false) × (noMonth K y m ≡ false) × (lengthFor K y m .days ≡ lengthIn K y m)
+  pub length-passed : lengthFor K y m .number ≡ 0 → (yearOut K y ≡ false) × (noMonth K y m ≡ false) × (lengthFor K y m .days ≡ lengthIn K y m)
   unfolding lengthFor
   length-passed e =
       let through = passed (λ (a : LengthAnswer). a .number) in
@@ -175,17 +201,14 @@ module _ (K : Calendar) (y : ℤ) (m : ℕ) where
       let p = length-passed e in
       let exact = exactly (day-given K y m d) 4 in (
         (λ f. outside (p .2) (exact .0 f)),
-        λ x. exact .1 (lowest (⊎-elim day-0 (λ h. beyond-month (omega (arith, p .2))) x) (clear (not-2 K y m d (p .0)) (not-3 K y m d (p .1)))),
+        λ x. exact .1 (later (not-2 K y m d (p .0)) (later (not-3 K y m d (p .1)) (first (⊎-elim day-0 (λ h. beyond-month (omega (arith, p .2))) x)))),
       )
     where
-      outside : lengthFor K y m .days ≡ lengthIn K y m → Given (OfDate K y m d) 4 → (d ≡ 0) ⊎ (lengthFor K y m .days < d)
-      outside e (lowest (day-0 f) c) = inl f
-      outside e (lowest (beyond-month f) c) = inr (omega arith)
-      outside e (lowest (its-day a) c) = absurd (omega (arith, only-5 K (dayNumber K y m d) a))
+      beyond : lengthFor K y m .days ≡ lengthIn K y m → OfDate K y m d 4 → (d ≡ 0) ⊎ (lengthFor K y m .days < d)
+      beyond e (day-0 f) = inl f
+      beyond e (beyond-month f) = inr (omega arith)
+      beyond e (its-day a) = absurd (omega (arith, from-5 K (dayNumber K y m d) a))
 
-      clear : ¬ OfDate K y m d 2 → ¬ OfDate K y m d 3 → (j : ℕ) → j < 4 → ¬ OfDate K y m d j
-      clear u v j h a =
-          by-order j 3
-          (λ l. let e : j ≡ 2 = omega (arith, two-to-five K y m d a) in u (subst (OfDate K y m d) e a))
-          (λ e. v (subst (OfDate K y m d) e a))
-          (λ l. omega arith)
+      outside : lengthFor K y m .days ≡ lengthIn K y m → Given (OfDate K y m d) dateOrder 4 → (d ≡ 0) ⊎ (lengthFor K y m .days < d)
+      outside e (later a (later b (first c))) = beyond e c
+      outside e (later a (later b (later c g))) = absurd (one-of (λ k. ¬ (k ≡ 4)) (λ z. omega arith) ((λ z. omega arith), ((λ z. omega arith), tt)) g refl)

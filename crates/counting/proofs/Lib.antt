@@ -4,4 +4,5 @@ pub mod Signs
 pub mod Starts
 pub mod Given
 pub mod Rounds
+pub mod Ends
 pub mod Claims

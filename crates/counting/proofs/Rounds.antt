@@ -1,8 +1,9 @@
 -- What the answers of a calendar have to do with counting and with each other, for any calendar in which every year has days: counting from the first day
 -- reaches the date, each way undoes the other, and dates in order have days in order.
 use mathlib.Core.Path.{_≡_, refl, sym, ap, _∙_}
-use mathlib.Core.Bool.{Bool, true, false, _||_}
+use mathlib.Core.Bool.{Bool, true, false, cond, _||_}
 use mathlib.Core.Logic.{_↔_}
+use mathlib.Core.Option.{Option}
 use mathlib.Core.List.{List}
 use Prim.Native.Nat.{ℕ, suc, _-_, _≤_, _<_}
 use native.Mathlib.Omega.{arith}
@@ -15,13 +16,11 @@ use Rattle.counting.specs.Calendar.{total, Date, Valid, len, firstFrom, 
 use Rattle.counting.specs.Calendar.Before.{by-year as before-by-year, by-month as before-by-month, by-day as before-by-day}
 use Rattle.counting.specs.Years.{yearAt, yearsFrom}
 use Rattle.counting.specs.Answers.{Calendar, years, DayAnswer, DateAnswer, lastDay, lastYear, yearOut, lengthIn, monthZero, noDaysThatYear, noMonth}
-use Rattle.counting.specs.Answers.{noDay, dayOut, dayNumber, dateOn, dated, noDayAnswer, noDateAnswer, dayFor, dateFor}
-use Rattle.counting.specs.Given.{Given, OfDate}
-use Rattle.counting.specs.Given.Given.{done, lowest}
+use Rattle.counting.specs.Answers.{noDay, dayOut, after, ended, dayNumber, dateOn, dated, noDayAnswer, noDateAnswer, dayFor, dateFor, lastWith, lastOf}
 use Rattle.counting.specs.Order.{Earlier}
 use Rattle.counting.specs.Order.Earlier.{by-year, by-month, by-day}
 use Rattle.basics.proofs.Cases.{neither}
-use Rattle.counting.proofs.Given.{passed, day-given, two-to-five}
+use Rattle.counting.proofs.Given.{passed}
 use Rattle.counting.proofs.Signs.{year-back, place-back, not-before, order-kept}
 use Rattle.counting.proofs.Counting.{date-is, counted, orders-agree}
 
@@ -29,13 +28,17 @@ use Rattle.counting.proofs.Counting.{date-is, counted, orders-agree}
 abbrev pub counting : Calendar → ℤ → ℕ → ℕ → Date
 counting K y m d = record { year = yearsFrom (K .firstYear) y; month = m; day = d }
 
--- a date that has a day, and the day
-pub record Accepted (K : Calendar) (y : ℤ) (m d n : ℕ) : Type 0 where
+-- a date that the calendar has, and its day
+pub record Stands (K : Calendar) (y : ℤ) (m d n : ℕ) : Type 0 where
   pub from-first : ltZ y (K .firstYear) ≡ false
   pub to-last : ltZ lastYear y ≡ false
   pub valid : Valid (years K) (counting K y m d)
   pub number : dayNumber K y m d ≡ n
-  pub small : n ≤ lastDay
+
+-- one whose day is answered
+pub record Accepted (K : Calendar) (y : ℤ) (m d n : ℕ) : Type 0 where
+  pub stands : Stands K y m d n
+  pub small : n ≤ lastOf K
 
 -- the lengths of a year from the first on
 pub lengths-at : (K : Calendar) (y : ℤ) → ltZ y (K .firstYear) ≡ false → K .lengths y ≡ years K (yearsFrom (K .firstYear) y)
@@ -57,71 +60,99 @@ no-month K y m = go (eqb m 0) refl (ltb (length (K .lengths y)) m) refl
         let l = ltb-true (length (K .lengths y)) m h in
         sym (eq-eqb (lengthIn K y m) 0 (List·getD-eq-default (K .lengths y) 0 (omega arith)))
 
--- date to day answers no number above 5
-pub day-five : (K : Calendar) (y : ℤ) (m d : ℕ) → dayFor K y m d .number ≤ 5
-day-five K y m d = go (day-given K y m d)
-  where
-    go : {k : ℕ} → Given (OfDate K y m d) k → k ≤ 5
-    go (done f) = omega arith
-    go (lowest a c) = two-to-five K y m d a .1
+or-false : (t : Bool) → (t || false) ≡ t
+or-false true = refl
+or-false false = refl
+
+-- the last day that is answered is not above 5,373,484 and not after the end
+pub last-in : (o : Option ℕ) {n : ℕ} → n ≤ lastWith o → (n ≤ lastDay) × (after o n ≡ false)
+last-in Option.none h = (h, refl)
+last-in (Option.some e) {n} h = (omega arith, le-ltb e n (omega arith))
+
+pub last-small : (o : Option ℕ) → lastWith o ≤ lastDay
+last-small Option.none = omega arith
+last-small (Option.some e) = omega arith
+
+in-last : (o : Option ℕ) {n : ℕ} → n ≤ lastDay → after o n ≡ false → n ≤ lastWith o
+in-last Option.none h f = h
+in-last (Option.some e) {n} h f = omega (arith, ltb-false e n f)
+
+-- where that is below 5,373,484, the days after it are after the end
+pub past-end : (o : Option ℕ) {n : ℕ} → lastWith o < n → lastWith o < lastDay → after o n ≡ true
+past-end Option.none h k = absurd (omega arith)
+past-end (Option.some e) {n} h k = lt-ltb e n (omega arith)
 
 module _ (K : Calendar) where
-  pub accepted : (y : ℤ) (m d : ℕ) → dayFor K y m d .number ≡ 0 → Accepted K y m d (dayFor K y m d .day)
-  unfolding dayFor
-  accepted y m d e =
-      let through = passed (λ (a : DayAnswer). a .number) in
-      let q = through (yearOut K y) (noDayAnswer 2) _ (omega arith) e in
-      let r = through (noMonth K y m) (noDayAnswer 3) _ (omega arith) (q .1) in
-      let s = through (noDay K y m d) (noDayAnswer 4) _ (omega arith) (r .1) in
-      let t = through (dayOut K (dayNumber K y m d)) (noDayAnswer 5) _ (omega arith) (s .1) in
-      let Y = neither (ltZ y (K .firstYear)) (ltZ lastYear y) (q .0) in
-      let M = neither (monthZero m) (noDaysThatYear K y m) (sym (no-month K y m) ∙ r .0) in
-      let D = neither (eqb d 0) (ltb (lengthIn K y m) d) (s .0) in
-      let N = neither (ltb lastDay (dayNumber K y m d)) (ltb (dayNumber K y m d) (K .firstDay)) (t .0) in
-      let l = length-is K y m ∙ ap (λ (ls : List ℕ). len ls m) (lengths-at K y (Y .0)) in
-      rw (q .0, r .0, s .0, t .0)
-      (record {
-        from-first = Y .0;
-        to-last = Y .1;
-        valid =
-            record {
-              month-from-1 = omega (arith, eqb-false m 0 (M .0));
-              day-from-1 = omega (arith, eqb-false d 0 (D .0));
-              day-in-month = omega (arith, ltb-false (lengthIn K y m) d (D .1), l);
-            };
-        number = refl;
-        small = ltb-false lastDay (dayNumber K y m d) (N .0);
-      })
+  module _ (y : ℤ) (m d : ℕ) where
+    -- a date stands where 2, 3 and 4 do not apply,
+    pub stands : yearOut K y ≡ false → noMonth K y m ≡ false → noDay K y m d ≡ false → Stands K y m d (dayNumber K y m d)
+    stands q r s =
+        let Y = neither (ltZ y (K .firstYear)) (ltZ lastYear y) q in
+        let M = neither (monthZero m) (noDaysThatYear K y m) (sym (no-month K y m) ∙ r) in
+        let D = neither (eqb d 0) (ltb (lengthIn K y m) d) s in
+        let l = length-is K y m ∙ ap (λ (ls : List ℕ). len ls m) (lengths-at K y (Y .0)) in
+        record {
+          from-first = Y .0;
+          to-last = Y .1;
+          valid =
+              record {
+                month-from-1 = omega (arith, eqb-false m 0 (M .0));
+                day-from-1 = omega (arith, eqb-false d 0 (D .0));
+                day-in-month = omega (arith, ltb-false (lengthIn K y m) d (D .1), l);
+              };
+          number = refl;
+        }
 
-  pub accept : (y : ℤ) (m d n : ℕ) → Accepted K y m d n → dayFor K y m d ≡ record { number = 0; day = n }
-  unfolding dayFor
-  accept y m d n a =
-      let l = length-is K y m ∙ ap (λ (ls : List ℕ). len ls m) (lengths-at K y (a .from-first)) in
-      let v = a .valid in
-      rw (
-        no-month K y m,
-        a .from-first,
-        a .to-last,
-        ne-eqb m 0 (omega (arith, v .month-from-1)),
-        ne-eqb (lengthIn K y m) 0 (omega (arith, v .day-from-1, v .day-in-month)),
-        ne-eqb d 0 (omega (arith, v .day-from-1)),
-        le-ltb (lengthIn K y m) d (omega (arith, v .day-in-month)),
-        le-ltb lastDay (dayNumber K y m d) (omega (arith, a .number, a .small)),
-        le-ltb (dayNumber K y m d) (K .firstDay) (omega arith),
-        a .number,
-      ) refl
+    -- and only there; then its day is what is tried
+    pub stand : (n : ℕ) → Stands K y m d n
+        → dayFor K y m d ≡ cond (ended K n) (noDayAnswer 17) (cond (ltb lastDay n) (noDayAnswer 5) (record { number = 0; day = n }))
+    unfolding dayFor
+    stand n a =
+        let l = length-is K y m ∙ ap (λ (ls : List ℕ). len ls m) (lengths-at K y (a .from-first)) in
+        let v = a .valid in
+        rw (
+          no-month K y m,
+          a .from-first,
+          a .to-last,
+          ne-eqb m 0 (omega (arith, v .month-from-1)),
+          ne-eqb (lengthIn K y m) 0 (omega (arith, v .day-from-1, v .day-in-month)),
+          ne-eqb d 0 (omega (arith, v .day-from-1)),
+          le-ltb (lengthIn K y m) d (omega (arith, v .day-in-month)),
+          le-ltb (dayNumber K y m d) (K .firstDay) (omega arith),
+          or-false (ltb lastDay (dayNumber K y m d)),
+          a .number,
+        ) refl
+
+    pub accepted : dayFor K y m d .number ≡ 0 → Accepted K y m d (dayFor K y m d .day)
+    unfolding dayFor
+    accepted e =
+        let n = dayNumber K y m d in
+        let through = passed (λ (a : DayAnswer). a .number) in
+        let q = through (yearOut K y) (noDayAnswer 2) _ (omega arith) e in
+        let r = through (noMonth K y m) (noDayAnswer 3) _ (omega arith) (q .1) in
+        let s = through (noDay K y m d) (noDayAnswer 4) _ (omega arith) (r .1) in
+        let t = through (ended K n) (noDayAnswer 17) _ (omega arith) (s .1) in
+        let u = through (dayOut K n) (noDayAnswer 5) _ (omega arith) (t .1) in
+        let N = neither (ltb lastDay n) (ltb n (K .firstDay)) (u .0) in
+        rw (q .0, r .0, s .0, t .0, u .0)
+        (record { stands = stands (q .0) (r .0) (s .0); small = in-last (K .end) (ltb-false lastDay n (N .0)) (t .0) })
+
+    pub accept : (n : ℕ) → Accepted K y m d n → dayFor K y m d ≡ record { number = 0; day = n }
+    accept n a = let w = last-in (K .end) (a .small) in stand n (a .stands) ∙ rw (w .1, le-ltb lastDay n (w .0)) refl
 
   -- a day that is answered
-  pub answered : (n : ℕ) → K .firstDay ≤ n → n ≤ lastDay → dateFor K n ≡ dated K (dateOn K n)
+  pub answered : (n : ℕ) → K .firstDay ≤ n → n ≤ lastOf K → dateFor K n ≡ dated K (dateOn K n)
   unfolding dateFor
-  answered n f k = rw (le-ltb lastDay n k, le-ltb n (K .firstDay) f) refl
+  answered n f k = let w = last-in (K .end) k in rw (le-ltb lastDay n (w .0), le-ltb n (K .firstDay) f, w .1) refl
 
-  pub given-date : (n : ℕ) → dateFor K n .number ≡ 0 → (K .firstDay ≤ n) × (n ≤ lastDay)
+  pub given-date : (n : ℕ) → dateFor K n .number ≡ 0 → (K .firstDay ≤ n) × (n ≤ lastOf K)
   unfolding dateFor
   given-date n e =
-      let q = passed (λ (a : DateAnswer). a .number) (dayOut K n) (noDateAnswer 5) _ (omega arith) e in
+      let through = passed (λ (a : DateAnswer). a .number) in
+      let q = through (dayOut K n) (noDateAnswer 5) _ (omega arith) e in
+      let r = through (ended K n) (noDateAnswer 17) _ (omega arith) (q .1) in
       let N = neither (ltb lastDay n) (ltb n (K .firstDay)) (q .0) in
-      (ltb-false n (K .firstDay) (N .1), ltb-false lastDay n (N .0))
+      (ltb-false n (K .firstDay) (N .1), in-last (K .end) (ltb-false lastDay n (N .0)) (r .0))
 
   -- the day after has the date that follows
   pub next-date : (n : ℕ) → K .firstDay ≤ n → dateOn K (suc n) ≡ next (years K) (dateOn K n)
@@ -136,24 +167,27 @@ module _ (K : Calendar) where
 -- every year has days
 module _ (K : Calendar) (has-days : (i : ℕ) → 1 ≤ total (years K i)) where
   -- counting from the first day reaches the date
-  pub reached : (y : ℤ) (m d n : ℕ) → Accepted K y m d n → (K .firstDay ≤ n) × (dateOn K n ≡ counting K y m d)
+  pub reached : (y : ℤ) (m d n : ℕ) → Stands K y m d n → (K .firstDay ≤ n) × (dateOn K n ≡ counting K y m d)
   reached y m d n a =
       (omega (arith, a .number), date-is (years K) has-days (n - K .firstDay) (counting K y m d) (a .valid) (omega (arith, a .number)))
 
   -- so its day has that date
   pub there-and-back : (y : ℤ) (m d n : ℕ) → Accepted K y m d n → dateFor K n ≡ record { number = 0; year = y; month = m; day = d }
   there-and-back y m d n a =
-      let r = reached y m d n a in
-      answered K n (r .0) (a .small) ∙ rw (r .1, year-back (K .firstYear) y (a .from-first)) refl
+      let r = reached y m d n (a .stands) in
+      answered K n (r .0) (a .small) ∙ rw (r .1, year-back (K .firstYear) y (a .stands .from-first)) refl
 
   -- and a day's date has that day, if its year is not above the last
-  pub back-and-there : (n : ℕ) → K .firstDay ≤ n → n ≤ lastDay → ltZ lastYear (dated K (dateOn K n) .year) ≡ false
+  pub back-and-there : (n : ℕ) → K .firstDay ≤ n → n ≤ lastOf K → ltZ lastYear (dated K (dateOn K n) .year) ≡ false
       → let x = dated K (dateOn K n) in Accepted K (x .year) (x .month) (x .day) n
   back-and-there n f k l =
       let D = dateOn K n in
       let g = counted (years K) has-days (n - K .firstDay) in
       let i = place-back (K .firstYear) (D .year) in
-      record { from-first = not-before (K .firstYear) (D .year); to-last = l; valid = rw i (g .0); number = rw i (omega (arith, g .1)); small = k }
+      record {
+        stands = record { from-first = not-before (K .firstYear) (D .year); to-last = l; valid = rw i (g .0); number = rw i (omega (arith, g .1)) };
+        small = k;
+      }
 
 -- where each way undoes the other, a date is given a day exactly where a day is given that date
 pub given-exactly : (day : ℤ → ℕ → ℕ → DayAnswer) (date : ℕ → DateAnswer)
@@ -168,7 +202,7 @@ given-exactly day date there back y m d =
 
 -- ---- order
 
-module _ (K : Calendar) (y : ℤ) (m d n : ℕ) (y′ : ℤ) (m′ d′ n′ : ℕ) (a : Accepted K y m d n) (a′ : Accepted K y′ m′ d′ n′) where
+module _ (K : Calendar) (y : ℤ) (m d n : ℕ) (y′ : ℤ) (m′ d′ n′ : ℕ) (a : Stands K y m d n) (a′ : Stands K y′ m′ d′ n′) where
   first : ℤ
   first = K .firstYear
 

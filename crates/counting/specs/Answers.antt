@@ -1,9 +1,11 @@
--- A calendar, and what it answers, by the table of docs/RULES.md, "Answer numbers": date to day tries 2, 3, 4, 5; day to date 5; the length of a position 2, 3.
+-- A calendar, and what it answers, by the table of docs/RULES.md, "Answer numbers": date to day tries 2, 3, 4, 17, 5; day to date 5, 17; the length of a
+-- position 2, 3.
 -- (1, a number that is no calendar's, is tried where calendars are looked up by number.) A refusal has its number, and 0 in all other fields.
-use Prim.Native.Nat.{ℕ, _+_, _-_, _≤_}
+use Prim.Native.Nat.{ℕ, _+_, _-_, _≤_, min}
 use mathlib.Core.Path.{_≡_}
 use mathlib.Core.Bool.{Bool, false, cond, _||_}
 use mathlib.Core.List.{List}
+use mathlib.Core.Option.{Option}
 use lib.Dec.{eqb, ltb}
 use lib.IntN.{ℤ, pos}
 use lib.ListN.{length}
@@ -11,11 +13,12 @@ use lib.Signed.{ltZ}
 use Rattle.counting.specs.Calendar.{total, len, dayOf, dateAt, Date}
 use Rattle.counting.specs.Years.{yearAt, yearsFrom}
 
--- a calendar: its first year, the day of 1/1 of that year, and the lengths of the positions of each year
+-- a calendar: its first year, the day of 1/1 of that year, the lengths of the positions of each year, and its own last day, if it ended
 pub record Calendar : Type 0 where
   pub firstYear : ℤ
   pub firstDay : ℕ
   pub lengths : ℤ → List ℕ
+  pub end : Option ℕ
 
 -- the lengths of its years, counted from its first
 unfoldable pub years : Calendar → ℕ → List ℕ
@@ -74,6 +77,14 @@ noDay K y m d = eqb d 0 || ltb (lengthIn K y m) d
 abbrev pub dayOut : Calendar → ℕ → Bool
 dayOut K n = ltb lastDay n || ltb n (K .firstDay)
 
+-- 17: day after the calendar's end
+abbrev pub after : Option ℕ → ℕ → Bool
+after Option.none n = false
+after (Option.some e) n = ltb e n
+
+abbrev pub ended : Calendar → ℕ → Bool
+ended K n = after (K .end) n
+
 -- ---- date to day
 
 -- the day of a date that the calendar has
@@ -88,8 +99,9 @@ dayFor K y m d =
     cond (yearOut K y) (noDayAnswer 2)
     (cond (noMonth K y m) (noDayAnswer 3)
     (cond (noDay K y m d) (noDayAnswer 4)
+    (cond (ended K (dayNumber K y m d)) (noDayAnswer 17)
     (cond (dayOut K (dayNumber K y m d)) (noDayAnswer 5)
-    (record { number = 0; day = dayNumber K y m d }))))
+    (record { number = 0; day = dayNumber K y m d })))))
 
 -- ---- day to date: the date that counting one by one from the calendar's first day reaches
 
@@ -104,7 +116,10 @@ abbrev pub noDateAnswer : ℕ → DateAnswer
 noDateAnswer k = record { number = k; year = pos 0; month = 0; day = 0 }
 
 unfoldable pub dateFor : Calendar → ℕ → DateAnswer
-dateFor K n = cond (dayOut K n) (noDateAnswer 5) (dated K (dateOn K n))
+dateFor K n =
+    cond (dayOut K n) (noDateAnswer 5)
+    (cond (ended K n) (noDateAnswer 17)
+    (dated K (dateOn K n)))
 
 -- ---- the length of a position in a year
 
@@ -116,6 +131,21 @@ lengthFor K y m =
     cond (yearOut K y) (noLengthAnswer 2)
     (cond (noMonth K y m) (noLengthAnswer 3)
     (record { number = 0; days = lengthIn K y m }))
+
+-- y/m/d is a date of the calendar: the position has a length, and day d is one of its days
+pub record IsDate (K : Calendar) (y : ℤ) (m d : ℕ) : Type 0 where
+  pub position : lengthFor K y m .number ≡ 0
+  pub from-1 : 1 ≤ d
+  pub to-length : d ≤ lengthFor K y m .days
+
+-- ---- the last day that has a date: 5,373,484, or the calendar's end
+
+abbrev pub lastWith : Option ℕ → ℕ
+lastWith Option.none = lastDay
+lastWith (Option.some e) = min e lastDay
+
+abbrev pub lastOf : Calendar → ℕ
+lastOf K = lastWith (K .end)
 
 -- ---- what the theorems ask of a calendar: every year has days, and no day up to the last is in a year above 20,000
 

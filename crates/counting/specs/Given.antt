@@ -1,22 +1,38 @@
--- The table of docs/RULES.md, "Answer numbers", as it is worded: which numbers apply to a question, and which one is given. The claims page shows that each
--- answer's number is the one given here. (1, a number that is no calendar's, is tried where calendars are looked up by number.)
-use Prim.Native.Nat.{ℕ, _<_, _≤_}
+-- The tables of docs/RULES.md, "Answer numbers", as they are worded: which numbers apply to a question, and which one is given. The claims page shows that
+-- each answer's number is the one given here. (1, a number that is no calendar's, is tried where calendars are looked up by number.)
+use Prim.Native.Nat.{ℕ, _<_}
 use mathlib.Core.Path.{_≡_}
 use mathlib.Core.Bool.{true}
+use mathlib.Core.List.{List, [], _∷_}
+use mathlib.Core.Option.{Option}
 use lib.IntN.{ℤ, pos}
 use lib.ListN.{length}
 use lib.Signed.{ltZ}
 use Rattle.counting.specs.Answers.{Calendar, lengthIn, dayNumber}
 
--- the lowest applying number is given; 0, done, where none applies
-pub data Given (Applies : ℕ → Type 0) : ℕ → Type 0 where
-  done : ((j : ℕ) → ¬ Applies j) → Given Applies 0
-  lowest : {k : ℕ} → Applies k → ((j : ℕ) → j < k → ¬ Applies j) → Given Applies k
+-- numbers are tried in an order: the first that applies is given; 0, done, where none does
+pub data Given (Applies : ℕ → Type 0) : List ℕ → ℕ → Type 0 where
+  done : Given Applies [] 0
+  first : {k : ℕ} {rest : List ℕ} → Applies k → Given Applies (k ∷ rest) k
+  later : {j k : ℕ} {rest : List ℕ} → ¬ Applies j → Given Applies rest k → Given Applies (j ∷ rest) k
 
--- to day n: 5, day above 5,373,484, or before the calendar's first day
+-- the orders
+abbrev pub dateOrder : List ℕ
+dateOrder = 2 ∷ 3 ∷ 4 ∷ 17 ∷ 5 ∷ []
+
+abbrev pub dayOrder : List ℕ
+dayOrder = 5 ∷ 17 ∷ []
+
+abbrev pub positionOrder : List ℕ
+positionOrder = 2 ∷ 3 ∷ []
+
+-- to day n
 pub data OfDay (K : Calendar) (n : ℕ) : ℕ → Type 0 where
+  -- 5: day above 5,373,484, or before the calendar's first day
   above-5373484 : 5373484 < n → OfDay K n 5
   before-first : n < K .firstDay → OfDay K n 5
+  -- 17: day after the calendar's end
+  after-end : {e : ℕ} → K .end ≡ Option.some e → e < n → OfDay K n 17
 
 -- to the date y/m/d
 pub data OfDate (K : Calendar) (y : ℤ) (m d : ℕ) : ℕ → Type 0 where
@@ -30,9 +46,9 @@ pub data OfDate (K : Calendar) (y : ℤ) (m d : ℕ) : ℕ → Type 0 where
   -- 4: day 0 or beyond the month
   day-0 : d ≡ 0 → OfDate K y m d 4
   beyond-month : lengthIn K y m < d → OfDate K y m d 4
-  -- 5, as to its day
+  -- 5 and 17, as to its day
   its-day : {k : ℕ} → OfDay K (dayNumber K y m d) k → OfDate K y m d k
 
--- to position m of year y: 2 and 3, as to every date there
+-- to position m of year y: as to every date there
 abbrev pub OfPosition : Calendar → ℤ → ℕ → ℕ → Type 0
-OfPosition K y m k = (k ≤ 3) × ((d : ℕ) → OfDate K y m d k)
+OfPosition K y m k = (d : ℕ) → OfDate K y m d k

@@ -1,16 +1,27 @@
 // The date of a day. The families of calendars are crates of their own; here each calendar is given its family and its first day.
 use parts::Place;
 ghost use Prim.Native.Nat.{_≤_};
-ghost use Rattle.counting.specs.Answers.{lastDay};
-ghost use Rattle.months.specs.Parts.{PlaceOf};
+ghost use Rattle.counting.specs.Answers.{lastDay, lastOf};
+ghost use Rattle.calendar_rules.specs.Calendars.{republican};
+ghost use Rattle.months.specs.Parts.{PlaceTo};
 ghost use Rattle.asking.specs.Steps.{Answered, Found};
 
 const LAST_DAY: u64 = 5373484;
 
+// The date of a day in the Republican calendar, which ended.
+fn republican_date(day: u32) -> Place
+    ensures { λ r. ⌜ PlaceTo republican (lastOf republican) day (r .year) (r .month) (r .day) ⌝ }
+{
+    if listing::last_day(7) < (day as u64) {
+        return parts::nowhere();
+    }
+    thirties::coptic_date(2375840, day)
+}
+
 // The date of a day that is not too late; month 0 where there is none.
 fn place_on(c: u64, day: u32) -> Place
     requires { ⌜ day ≤ lastDay ⌝ }
-    ensures { λ r. ⌜ Answered c (λ K. PlaceOf K day (r .year) (r .month) (r .day)) (r .month) ⌝ }
+    ensures { λ r. ⌜ Answered c (λ K. PlaceTo K (lastOf K) day (r .year) (r .month) (r .day)) (r .month) ⌝ }
 {
     match c {
         // Egyptian
@@ -26,7 +37,7 @@ fn place_on(c: u64, day: u32) -> Place
         // Coptic
         6 => thirties::coptic_date(1825030, day),
         // Republican
-        7 => thirties::coptic_date(2375840, day),
+        7 => republican_date(day),
         // Macedonian
         8 => march::macedonian_date(day),
         // Syrian

@@ -11,11 +11,12 @@ use Rattle.hebrew.specs.Hebrew.{lengths as hebrewLengths}
 use Rattle.lines.specs.BandTest.{within, sumTo, peak, offsetOf, passes, first}
 use Rattle.basics.specs.Every.{every, All}
 use Rattle.lines.specs.Fit.{answerOf, fitOf}
-use Rattle.counting.specs.Answers.{years, dayFor}
+use Rattle.counting.specs.Answers.{years, dayFor, dateFor}
 use Rattle.counting.proofs.Starts.{start-same}
 use Rattle.hebrew.proofs.Calendar.{start-is}
 use Rattle.calendar_rules.specs.Calendars.{hebrew, lookup, calendar}
-use Rattle.calendar_rules.specs.Answers.{dayAnswer}
+use Rattle.calendar_rules.specs.Answers.{dayAnswer, dateAnswer}
+use Rattle.calendar_rules.proofs.Claims.{there-and-back}
 use Rattle.calendar_rules.proofs.HebrewYears.{hebrew-row}
 use Rattle.examples.specs.Starred.{starred, Answered}
 use Rattle.examples.specs.Requests.{worked}
@@ -34,6 +35,11 @@ unfolding dayAnswer calendar lookup dayFor years dayOf start total fitOf within 
 starred-answered =
     (refl, (refl, (refl, (refl, (refl, (refl, (refl, (refl, (hebrew-years .0, (hebrew-years .1, (refl, (refl, (refl, (refl, (refl, (refl, tt))))))))))))))))
 
-pub worked-answered : All Answered worked
+-- the date of the Republican calendar's last day, from the day of that date
+last-republican : dateAnswer 7 2380687 ≡ record { number = 0; year = pos 14; month = 4; day = 10 }
 unfolding dayAnswer calendar lookup dayFor years dayOf start total
-worked-answered = (refl, (refl, tt))
+last-republican = there-and-back 7 (pos 14) 4 10 refl
+
+pub worked-answered : All Answered worked
+unfolding dayAnswer dateAnswer calendar lookup dayFor dateFor years dayOf start total
+worked-answered = (refl, (refl, (refl, (refl, (last-republican, (refl, tt))))))

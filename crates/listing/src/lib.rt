@@ -1,10 +1,16 @@
-// Which numbers are a calendar's and which years it may have: what the questions to the calendars try alike.
+// Which numbers are a calendar's, which years it may have, and its last day: what the questions to the calendars try alike.
 ghost use mathlib.Core.Path.{_≡_};
+ghost use Prim.Native.Nat.{_≤_};
+ghost use Rattle.counting.specs.Answers.{lastDay, lastOf};
 ghost use Rattle.asking.specs.Steps.{listed, OfListed, packedNone, yearInside, yearsSince};
 
 const FIRST_YEAR: i64 = -4712;
 
 const LAST_YEAR: i64 = 20000;
+
+const LAST_DAY: u64 = 5373484;
+
+const REPUBLICAN_END: u64 = 2380687;
 
 // Whether a number is a calendar's. The bits are those of the numbers 1 to 15 and 18.
 pub fn is_listed(c: u64) -> bool
@@ -25,6 +31,16 @@ fn first_year(c: u64) -> i64
         return FIRST_YEAR;
     }
     1
+}
+
+// The last day that has a date in a calendar that is listed.
+pub fn last_day(c: u64) -> u64
+    ensures { λ r. ⌜ (r ≤ lastDay) × OfListed c (λ K. r ≡ lastOf K) ⌝ }
+{
+    if c == 7 {
+        return REPUBLICAN_END;
+    }
+    LAST_DAY
 }
 
 // Whether some calendar may have such a year.

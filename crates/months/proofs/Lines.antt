@@ -15,7 +15,7 @@ use Rattle.months.specs.Lines.{turnedBy, ByLine, byLines, lengths, Yield
 use Rattle.months.specs.Leap.{fourthLeap, islamicLeapAt, gregorianLong}
 use Rattle.months.specs.March.{fromMarch}
 use Rattle.months.proofs.ByLine.{OnLine, grows, on-line, by-line}
-use Rattle.months.proofs.Rows.{plain-row, coptic-row, islamic-row, macedonian-row, syrian-row, julian-row, gregorian-row}
+use Rattle.months.proofs.Rows.{plain-row, coptic-row, republican-row, islamic-row, macedonian-row, syrian-row, julian-row, gregorian-row}
 
 pub thirties-line : (leap : Bool) → OnLine 30 1 0 (thirtiesAnd5 leap)
 unfolding grows every markAt
@@ -62,7 +62,7 @@ lies =
     and (λ i. from-first _ i (plain-row 1952068 i) (thirties-line false))
     and (λ i. from-first _ i (coptic-row 1724221 i) (coptic-line (fourthLeap 1 i)))
     and (λ i. from-first _ i (coptic-row 1825030 i) (coptic-line (fourthLeap 1 i)))
-    and (λ i. from-first _ i (coptic-row 2375840 i) (coptic-line (fourthLeap 1 i)))
+    and (λ i. from-first _ i (republican-row i) (coptic-line (fourthLeap 1 i)))
     and from-march 6 (years macedonian) fromSeptember (fourthLeap 1) (λ t u. refl) macedonian-row
     and from-march 5 (years syrian) fromOctober (fourthLeap 1) (λ t u. refl) syrian-row
     and from-march 2 (years julian) fromJanuary (fourthLeap 3) (λ t u. refl) julian-row

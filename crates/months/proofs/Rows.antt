@@ -11,7 +11,7 @@ use Rattle.counting.specs.Answers.{years}
 use Rattle.basics.proofs.Cases.{same-test, same-eqb}
 use Rattle.counting.proofs.Signs.{mod-after}
 use Rattle.calendar_rules.specs.Calendars.{remainder, gregorianLeap, islamicLeap, thirtiesAnd5, thirtiesAnd5or6, fiveAt9, fromSeptember, fromOctober}
-use Rattle.calendar_rules.specs.Calendars.{fromJanuary, inTurn, nineteens, sakaMonths, persian, macedonian, syrian, julian, gregorian, bahai, saka}
+use Rattle.calendar_rules.specs.Calendars.{fromJanuary, inTurn, nineteens, sakaMonths, persian, republican, macedonian, syrian, julian, gregorian, bahai, saka}
 use Rattle.months.specs.Leap.{fourthLeap, gregorianLong, islamicLeapAt}
 use Rattle.months.specs.Parts.{plainFrom, copticFrom, islamicFrom}
 use Rattle.months.proofs.Gregorian.{in-words}
@@ -71,6 +71,11 @@ module _ (first i : ℕ) where
   pub islamic-row : years (islamicFrom first) i ≡ inTurn (islamicLeapAt i)
   unfolding years
   islamic-row = ap inTurn (eleven i)
+
+-- the Republican calendar ended, and its years are of the same kind
+pub republican-row : (i : ℕ) → years republican i ≡ thirtiesAnd5or6 (fourthLeap 1 i)
+unfolding years
+republican-row i = coptic-row (republican .firstDay) i
 
 pub persian-row : (i : ℕ) → years persian i ≡ fiveAt9 false
 unfolding years

@@ -1,17 +1,16 @@
 // The day of a date as one number: the day, or a refusal's number 2^32 high. Plain numbers, since a large function with two callers is called, and would hand a
 // struct over through memory. The families of calendars are crates of their own; here each calendar is given its family and its first day, and the refusals
-// are tried in the order of their numbers, 1 to 5. A test in the form that a date meets comes first, so that the compiler puts what follows next to it.
+// are tried in their order: 1, 2, 3, 4, 17, 5. A test in the form that a date meets comes first, so that the compiler puts what follows next to it.
 use parts::Month;
 ghost use mathlib.Core.Bool.{cond};
 ghost use mathlib.Core.Path.{_≡_};
 ghost use Prim.Native.Nat.{_*_, _^_, _≤_};
-ghost use lib.Dec.{eqb, ltb};
+ghost use lib.Dec.{eqb};
 ghost use lib.IntN.{negsuc};
-ghost use Rattle.counting.specs.Answers.{lastDay};
 ghost use Rattle.counting.specs.Years.{yearAt};
 ghost use Rattle.calendar_rules.specs.Answers.{dayAnswer};
 ghost use Rattle.months.specs.Parts.{MonthOf};
-ghost use Rattle.asking.specs.Steps.{Answered, Sought, packedDay, packedNone};
+ghost use Rattle.asking.specs.Steps.{Answered, Sought, inRange, endTried, packedDay, packedNone};
 
 const LAST_YEAR: i64 = 20000;
 
@@ -91,12 +90,28 @@ fn no_day(c: u64, year: i64, days: u64) -> u64
 
 // A day, 5 tried.
 fn in_time(n: u64) -> u64
-    ensures { λ r. ⌜ r ≡ cond (ltb lastDay n) (5 * 2 ^ 32) n ⌝ }
+    ensures { λ r. ⌜ r ≡ inRange n ⌝ }
 {
     if LAST_DAY < n {
         return 0x5_0000_0000;
     }
     n
+}
+
+// 17, tried on the day of a Republican date or on what refused it: a day that is out of range is after the end.
+fn end_tried(r: u64) -> u64
+    ensures { λ x. ⌜ x ≡ endTried 7 r ⌝ }
+{
+    if r <= listing::last_day(7) {
+        return r;
+    }
+    if r < 0x1_0000_0000 {
+        return 0x11_0000_0000;
+    }
+    if r == 0x5_0000_0000 {
+        return 0x11_0000_0000;
+    }
+    r
 }
 
 // Calendar 11.
@@ -132,10 +147,10 @@ fn hebrew_day(year: i64, month: u64, day: u64) -> u64
     in_time(m.start + (day - 1))
 }
 
-// All others.
+// All others, 17 not yet tried.
 fn other_day(calendar: u64, year: i64, month: u64, day: u64) -> u64
     requires { ⌜ (calendar ≡ 11 → ⊥) × (calendar ≡ 18 → ⊥) ⌝ }
-    ensures { λ r. ⌜ r ≡ packedDay (dayAnswer calendar year month day) ⌝ }
+    ensures { λ r. ⌜ endTried calendar r ≡ packedDay (dayAnswer calendar year month day) ⌝ }
 {
     if listing::year_inside(year) {
         if month == 0 {
@@ -160,5 +175,9 @@ pub fn packed_day(calendar: u64, year: i64, month: u64, day: u64) -> u64
     if calendar == 18 {
         return hebrew_day(year, month, day);
     }
-    other_day(calendar, year, month, day)
+    let r = other_day(calendar, year, month, day);
+    if calendar != 7 {
+        return r;
+    }
+    end_tried(r)
 }

@@ -1,20 +1,19 @@
 -- What is shown of the refusals' numbers (`specs/Number.antt`): none is 0, and each refusal has its own.
 use mathlib.Core.Path.{_≡_, refl, sym, ap, _∙_}
 use mathlib.Core.List.{List, [], _∷_}
-use Prim.Native.Nat.{ℕ, _-_, _≤_}
+use Prim.Native.Nat.{ℕ, _≤_}
 use native.Mathlib.Omega.{arith}
-use mathlib.Core.Bool.{false}
+use mathlib.Core.Bool.{false, cond}
 use lib.Dec.{eqb}
-use lib.ListN.{getD}
 use borrow.Author.Tests.{ne-eqb}
 use Rattle.refusals.specs.declared.Refusal.{Refusal}
 use Rattle.refusals.specs.declared.Refusal.the-variants.{UnknownCalendar, YearOutOfRange, NoSuchMonth, NoSuchDay, DayOutOfRange}
 use Rattle.refusals.specs.declared.Refusal.the-variants.{CodeOutOfLimits, NoLine, MalformedFrame, WrongDay, LineOutOfLimits, BufferTooShort}
+use Rattle.refusals.specs.declared.Refusal.the-variants.{CalendarEnded}
 use Rattle.refusals.specs.Number.{numberOf}
 
--- the refusals in the order of their numbers
-numbered : List Refusal
-numbered =
+all : List Refusal
+all =
     UnknownCalendar
     ∷ YearOutOfRange
     ∷ NoSuchMonth
@@ -26,10 +25,16 @@ numbered =
     ∷ WrongDay
     ∷ LineOutOfLimits
     ∷ BufferTooShort
+    ∷ CalendarEnded
     ∷ []
 
-back : (why : Refusal) → (getD numbered (numberOf why - 1) UnknownCalendar ≡ why) × (1 ≤ numberOf why)
-unfolding numbered
+-- the refusal that a number is of
+find : ℕ → List Refusal → Refusal
+find n [] = UnknownCalendar
+find n (why ∷ rest) = cond (eqb (numberOf why) n) why (find n rest)
+
+back : (why : Refusal) → (find (numberOf why) all ≡ why) × (1 ≤ numberOf why)
+unfolding all find
 back UnknownCalendar = (refl, omega arith)
 back YearOutOfRange = (refl, omega arith)
 back NoSuchMonth = (refl, omega arith)
@@ -41,6 +46,7 @@ back MalformedFrame = (refl, omega arith)
 back WrongDay = (refl, omega arith)
 back LineOutOfLimits = (refl, omega arith)
 back BufferTooShort = (refl, omega arith)
+back CalendarEnded = (refl, omega arith)
 
 -- no refusal has the number 0, which is that of an answer
 pub not-done : (why : Refusal) → 1 ≤ numberOf why
@@ -52,4 +58,4 @@ not-zero why = ne-eqb (numberOf why) 0 (λ e. omega (arith, not-done why))
 
 -- refusals with one number are one refusal
 pub own-number : (x y : Refusal) → numberOf x ≡ numberOf y → x ≡ y
-own-number x y e = sym (back x .0) ∙ ap (λ (n : ℕ). getD numbered (n - 1) UnknownCalendar) e ∙ back y .0
+own-number x y e = sym (back x .0) ∙ ap (λ (n : ℕ). find n all) e ∙ back y .0

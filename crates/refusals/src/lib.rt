@@ -14,6 +14,7 @@ pub enum Refusal {
     WrongDay,
     LineOutOfLimits,
     BufferTooShort,
+    CalendarEnded,
 }
 
 // The refusal's number in the table of answer numbers.
@@ -32,6 +33,7 @@ pub fn number(why: Refusal) -> u8
         Refusal::WrongDay => 9,
         Refusal::LineOutOfLimits => 10,
         Refusal::BufferTooShort => 11,
+        Refusal::CalendarEnded => 17,
     }
 }
 

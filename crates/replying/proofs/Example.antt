@@ -1,4 +1,4 @@
--- The rules' example of a sheet, computed by the definitions.
+-- The rules' examples of sheets, computed by the definitions.
 use mathlib.Core.Path.{_≡_, refl}
 use mathlib.Core.List.{List, [], _∷_, _++_}
 use Prim.Native.Nat.{ℕ}
@@ -27,3 +27,19 @@ pub example : sheetOf input ≡ output
 unfolding sheetOf linesOf replies twoDigits writtenIn verdictOf verdictOn fieldsOf against sixteenDigits allDigits digitOf numberFrom field
     dayAnswer calendar lookup dayFor years dayOf start total
 example = refl
+
+-- 071276040a24538f, 071276040b245390, 071276040b000000: the last Republican date, and the date after it with the day after and with another
+abbrev pub endInput : List ℕ
+endInput =
+    (48 ∷ 55 ∷ 49 ∷ 50 ∷ 55 ∷ 54 ∷ 48 ∷ 52 ∷ 48 ∷ 97 ∷ 50 ∷ 52 ∷ 53 ∷ 51 ∷ 56 ∷ 102 ∷ 10 ∷ [])
+    ++ (48 ∷ 55 ∷ 49 ∷ 50 ∷ 55 ∷ 54 ∷ 48 ∷ 52 ∷ 48 ∷ 98 ∷ 50 ∷ 52 ∷ 53 ∷ 51 ∷ 57 ∷ 48 ∷ 10 ∷ [])
+    ++ (48 ∷ 55 ∷ 49 ∷ 50 ∷ 55 ∷ 54 ∷ 48 ∷ 52 ∷ 48 ∷ 98 ∷ 48 ∷ 48 ∷ 48 ∷ 48 ∷ 48 ∷ 48 ∷ 10 ∷ [])
+
+-- 00, 11, 11
+abbrev pub endOutput : List ℕ
+endOutput = 48 ∷ 48 ∷ 10 ∷ 49 ∷ 49 ∷ 10 ∷ 49 ∷ 49 ∷ 10 ∷ []
+
+pub end-example : sheetOf endInput ≡ endOutput
+unfolding sheetOf linesOf replies twoDigits writtenIn verdictOf verdictOn fieldsOf against sixteenDigits allDigits digitOf numberFrom field
+    dayAnswer calendar lookup dayFor years dayOf start total
+end-example = refl

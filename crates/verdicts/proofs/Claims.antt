@@ -1,31 +1,33 @@
 -- What is proved of the verdict on a line: the page to read first. It rests on specs/Digits.antt of crate hex (digits), specs/Frame.antt of crate frames
 -- (the fields of a frame), specs/Answers.antt of crate calendar_rules (what date to day answers) and specs/Verdict.antt.
-use mathlib.Core.Path.{_≡_, refl}
+use mathlib.Core.Path.{_≡_, refl, sym, _∙_}
 use mathlib.Core.Logic.{_↔_}
 use mathlib.Core.List.{List}
-use mathlib.Core.Bool.{Bool, true, false, cond}
-use mathlib.Core.Option.{Option}
-use Prim.Native.Nat.{ℕ, _≤_}
+use mathlib.Core.Bool.{Bool, true, false, cond, _||_}
+use Prim.Native.Nat.{ℕ}
 use native.Mathlib.Omega.{arith}
 use lib.Dec.{eqb}
+use lib.IntN.{pos}
 use borrow.Author.Tests.{eqb-true, eqb-false, eq-eqb, ne-eqb}
-use Rattle.counting.specs.Answers.{Calendar, noDayAnswer, dayFor}
-use Rattle.counting.proofs.Rounds.{day-five}
-use Rattle.calendar_rules.specs.Calendars.{calendar}
-use Rattle.calendar_rules.specs.Answers.{ofListed, dayAnswer}
+use Rattle.basics.proofs.Cases.{neither}
+use Rattle.counting.specs.Answers.{IsDate}
+use Rattle.counting.specs.Order.{Earlier}
+use Rattle.counting.proofs.Given.{one-of}
+use Rattle.calendar_rules.specs.Calendars.{republican}
+use Rattle.calendar_rules.proofs.Claims as R
 use Rattle.hex.specs.Digits.{sixteenDigits}
 use Rattle.frames.specs.declared.Frame.{Frame}
 use Rattle.frames.specs.Frame.{fieldsOf, yearOf}
 use Rattle.verdicts.specs.Verdict.{against, answerFor, verdictOn, verdictOf}
 
--- date to day answers no other number than 0 to 5
-five : (f : Frame) → answerFor f .number ≤ 5
-unfolding dayAnswer
-five f = go (calendar (f .calendar))
-  where
-    go : (o : Option Calendar) → ofListed o (noDayAnswer 1) (λ K. dayFor K (yearOf f) (f .month) (f .day)) .number ≤ 5
-    go Option.none = omega arith
-    go (Option.some K) = day-five K (yearOf f) (f .month) (f .day)
+-- date to day answers neither 8 nor 9
+others : (f : Frame) → (answerFor f .number ≡ 8 → ⊥) × (answerFor f .number ≡ 9 → ⊥)
+others f =
+    let k = answerFor f .number in
+    let e = neither (eqb k 8) (eqb k 9)
+    (one-of (λ (k : ℕ). (eqb k 8 || eqb k 9) ≡ false) refl (refl, (refl, (refl, (refl, (refl, (refl, tt))))))
+    (R.day-number (f .calendar) (yearOf f) (f .month) (f .day) k .0 refl)) in
+    (eqb-false k 8 (e .0), eqb-false k 9 (e .1))
 
 module _ (line : List ℕ) where
   -- the frame that the line is, if it is one
@@ -56,7 +58,7 @@ module _ (line : List ℕ) where
   unfolding verdictOf
   no-frame = (
     cases (λ v. v ≡ 8
-        → sixteenDigits line ≡ false) (λ h e. h) (λ h n e. absurd (omega (arith, five f))) (λ h n d e. absurd (omega arith)) (λ h n d e. absurd (omega arith)),
+        → sixteenDigits line ≡ false) (λ h e. h) (λ h n e. absurd (others f .0 e)) (λ h n d e. absurd (omega arith)) (λ h n d e. absurd (omega arith)),
     λ h. rw h,
   )
 
@@ -76,11 +78,27 @@ module _ (line : List ℕ) where
   wrong-day = (
     cases (λ v. v ≡ 9
         → (sixteenDigits line ≡ true) × (answerFor f .number ≡ 0) × (answerFor f .day ≡ f .number
-        → ⊥)) (λ h e. absurd (omega arith)) (λ h n e. absurd (omega (arith, five f))) (λ h n d e. (h, n, d)) (λ h n d e. absurd (omega arith)),
+        → ⊥)) (λ h e. absurd (omega arith)) (λ h n e. absurd (others f .1 e)) (λ h n d e. (h, n, d)) (λ h n d e. absurd (omega arith)),
     λ h. rw (h .0, eq-eqb (answerFor f .number) 0 (h .1), ne-eqb (answerFor f .day) (f .number) (h .2)),
   )
 
-  -- any other number is the one with which date to day refuses the frame's date
-  pub refused : sixteenDigits line ≡ true → (answerFor f .number ≡ 0 → ⊥) → verdictOf line ≡ answerFor f .number
+  -- any other number exactly where it is a frame and date to day refuses its date with that number, whatever its day
+  pub refused : (k : ℕ) → (k ≡ 0 → ⊥) → (k ≡ 8 → ⊥) → (k ≡ 9 → ⊥) → (verdictOf line ≡ k) ↔ ((sixteenDigits line ≡ true) × (answerFor f .number ≡ k))
   unfolding verdictOf verdictOn against
-  refused h n = rw (h, ne-eqb (answerFor f .number) 0 n)
+  refused k z h8 h9 = (
+    cases (λ v. v ≡ k
+        → (sixteenDigits line ≡ true)
+        × (answerFor f .number ≡ k)) (λ h e. absurd (h8 (sym e))) (λ h n e. (h, e)) (λ h n d e. absurd (h9 (sym e))) (λ h n d e. absurd (z (sym e))),
+    λ h. rw (h .0, ne-eqb (answerFor f .number) 0 (λ e. z (sym (h .1) ∙ e))) (h .1),
+  )
+
+  -- so 17 exactly where its date is one of the Republican calendar's, and after 14/4/10
+  pub ended : (verdictOf line ≡ 17)
+      ↔ ((sixteenDigits line ≡ true) × (f .calendar ≡ 7) × IsDate republican (yearOf f) (f .month) (f .day)
+      × Earlier (pos 14) 4 10 (yearOf f) (f .month) (f .day))
+  ended =
+      let r = refused 17 (omega arith) (omega arith) (omega arith) in
+      let d = R.ended-date (f .calendar) (yearOf f) (f .month) (f .day) in (
+        (λ e. let x = r .0 e in let y = d .0 (x .1) in (x .0, y .0, y .1, y .2)),
+        λ x. r .1 (x .0, d .1 (x .1, x .2, x .3)),
+      )

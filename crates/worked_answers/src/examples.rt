@@ -34,8 +34,12 @@ fn show_easters(good: &mut bool) {
     show::easter_of(good, 11, 1943);
 }
 
-// M-101.
+// M-101, M-106.
 fn show_requests(good: &mut bool) {
     show::day_of(good, 15, 1879, 1, 1);
     show::day_of(good, 14, 157, 1, 1);
+    show::day_of(good, 7, 14, 4, 10);
+    show::day_of(good, 7, 14, 4, 11);
+    show::date_of(good, 7, 2380687);
+    show::date_of(good, 7, 2380688);
 }

@@ -8,6 +8,7 @@ pub(crate) fn show_all(good: &mut bool) {
     show_years(good);
     show_months(good);
     show_days(good);
+    show_ended_dates(good);
     put(good, b"\nLimits: day to date\n");
     show_day_numbers(good);
     put(good, b"\nLimits: length of a position\n");
@@ -54,6 +55,17 @@ fn show_days(good: &mut bool) {
     show::day_of(good, 11, 20000, 2, 29);
 }
 
+// After the Republican calendar's end: 2, 3 and 4 are tried before 17, and 5 after it.
+fn show_ended_dates(good: &mut bool) {
+    show::day_of(good, 7, 14, 4, 31);
+    show::day_of(good, 7, 14, 14, 1);
+    show::day_of(good, 7, 14, 13, 5);
+    show::day_of(good, 7, 14, 13, 6);
+    show::day_of(good, 7, 15, 13, 6);
+    show::day_of(good, 7, 20000, 1, 1);
+    show::day_of(good, 7, 20001, 1, 1);
+}
+
 fn show_day_numbers(good: &mut bool) {
     show::date_of(good, 0, 2000000);
     show::date_of(good, 17, 5373485);
@@ -66,6 +78,10 @@ fn show_day_numbers(good: &mut bool) {
     show::date_of(good, 11, 5373484);
     show::date_of(good, 11, 5373485);
     show::date_of(good, 11, u64::MAX);
+    show::date_of(good, 7, 2375839);
+    show::date_of(good, 7, 2375840);
+    show::date_of(good, 7, 5373484);
+    show::date_of(good, 7, 5373485);
 }
 
 fn show_positions(good: &mut bool) {
@@ -76,6 +92,7 @@ fn show_positions(good: &mut bool) {
     show::length_of(good, 11, 1900, 2);
     show::length_of(good, 11, 2000, 0);
     show::length_of(good, 11, 2000, 13);
+    show::length_of(good, 7, 20000, 13);
     show::length_of(good, 18, 5784, 7);
     show::length_of(good, 18, 5785, 7);
     show::length_of(good, 18, 5785, 13);

@@ -34,6 +34,7 @@ pub(crate) fn put_refusal(good: &mut bool, why: Refusal) {
 pub(crate) fn put_calendar(good: &mut bool, calendar: u64) {
     match calendar {
         4 => put(good, b"Persian"),
+        7 => put(good, b"Republican"),
         10 => put(good, b"Julian"),
         11 => put(good, b"Gregorian"),
         13 => put(good, b"Islamic B"),

@@ -1,6 +1,6 @@
 -- `calendars::date_to_day` meets its contract.
 use mathlib.Core.Path.{_≡_}
-use Prim.Native.Nat.{ℕ, suc, _/_, _≤_}
+use Prim.Native.Nat.{ℕ, suc, _/_, _<_}
 use native.Mathlib.Omega.{arith}
 use mir.Syntax.{w64}
 use mir.ValLaws.{toZ-ofZ}
@@ -16,7 +16,7 @@ read : (a : tie.After-packed-day)
     → let s = a .before .before in
     let r = a .packed-day .result in
     let x = dayAnswer (s .args .calendar) (s .args .date .year) (s .args .date .month) (s .args .date .day) in
-    (r / 4294967296 ≤ 5) × (r / 4294967296 ≡ 0 → _≡_ {A = DayAnswer} (record { number = 0; day = r }) x)
+    (5 < r / 4294967296 → r / 4294967296 ≡ 17) × (r / 4294967296 ≡ 0 → _≡_ {A = DayAnswer} (record { number = 0; day = r }) x)
     × ((k : ℕ) → r / 4294967296 ≡ suc k → noDayAnswer (suc k) ≡ x)
 read a =
     let s = a .before .before in
@@ -42,9 +42,12 @@ returns-5 : tie.Need-returns-5
 returns-5 c = read (c .before) .2 3 (c .match .keys5)
 
 returns-6 : tie.Need-returns-6
-returns-6 c = let u = read (c .before) in u .2 4 (omega (arith, u .0, c .match .rest))
+returns-6 c = read (c .before) .2 4 (c .match .keys6)
+
+returns-7 : tie.Need-returns-7
+returns-7 c = let u = read (c .before) in u .2 16 (u .0 (omega (arith, c .match .rest)))
 
 pub date-to-day-spec : {M : Type 1} → statement M
 date-to-day-spec =
     tie.close
-    (tie.spec packed-day-requires returns returns-2 returns-3 returns-4 returns-5 returns-6)
+    (tie.spec packed-day-requires returns returns-2 returns-3 returns-4 returns-5 returns-6 returns-7)

@@ -2,7 +2,7 @@
 use mathlib.Core.Path.{sym, _∙_}
 use mir.Syntax.{w64}
 use mir.ValLaws.{toZ-ofZ}
-use Rattle.asking.proofs.Answers.{date-told}
+use Rattle.asking.proofs.Answers.{date-given}
 use borrow.Author.Needs.{needs}
 use Rattle.calendars.proofs.day_to_date.Statement.{statement}
 use Rattle.calendars.proofs.day_to_date.Tie as tie
@@ -11,13 +11,11 @@ place-requires : tie.Need-place-requires
 place-requires c κs = search needs
 
 no-date-requires : tie.Need-no-date-requires
-no-date-requires c κs = search needs
+no-date-requires c κs = let p = c .before .before in sym (p .place .ensures .month) ∙ c .if1 .taken
 
 returns : tie.Need-returns
 returns c =
-    let p = c .before .before .before in
-    let s = p .before in
-    c .no-date .ensures ∙ date-told (s .args .calendar) (s .args .day) .0 (sym (p .place .ensures .month) ∙ c .before .if1 .taken)
+    c .no-date .ensures
 
 returns-2 : tie.Need-returns-2
 returns-2 c =
@@ -25,7 +23,7 @@ returns-2 c =
     let s = p .before in
     let f = p .place .ensures in
     let n = c .before .if1 .left in
-    let z = date-told (s .args .calendar) (s .args .day) .1 (λ e. n (f .month ∙ e)) in
+    let z = date-given (s .args .calendar) (s .args .day) (λ e. n (f .month ∙ e)) in
     let g = f .rest n in
     rw (toZ-ofZ w64 (p .place .result .year) (record { sfits = c .struct-told .given .0 .1 }))
     (λ i. record { number = z i; year = g .0 i; month = f .month i; day = g .1 i })

@@ -1,9 +1,11 @@
 -- `dating::place_on` meets its contract.
 use mathlib.Core.Path.{refl}
+use Rattle.counting.specs.Answers.{lastOf}
 use Rattle.calendar_rules.specs.Calendars.{lookup, calendar}
 use Rattle.calendar_rules.proofs.Listed.{not-listed}
-use Rattle.months.specs.Parts.{PlaceOf}
+use Rattle.months.specs.Parts.{PlaceTo}
 use Rattle.asking.proofs.Arms.{on-arm, off-arm}
+use Rattle.asking.proofs.Answers.{to-last}
 use borrow.Author.Needs.{needs}
 use Rattle.dating.proofs.place_on.Statement.{statement}
 use Rattle.dating.proofs.place_on.Tie as tie
@@ -26,8 +28,8 @@ coptic-date-requires c κs = search needs
 coptic-date-requires-2 : tie.Need-coptic-date-requires-2
 coptic-date-requires-2 c κs = search needs
 
-coptic-date-requires-3 : tie.Need-coptic-date-requires-3
-coptic-date-requires-3 c κs = search needs
+republican-date-requires : tie.Need-republican-date-requires
+republican-date-requires c κs = search needs
 
 macedonian-date-requires : tie.Need-macedonian-date-requires
 macedonian-date-requires c κs = search needs
@@ -61,67 +63,67 @@ nowhere-requires c κs = search needs
 
 returns : tie.Need-returns
 unfolding calendar lookup
-returns c = let s = c .before .before in on-arm 1 (λ K. PlaceOf K (s .args .day) _ _ _) (c .before .match .keys1) refl (c .plain-date .ensures)
+returns c = let s = c .before .before in on-arm 1 (λ K. PlaceTo K (lastOf K) (s .args .day) _ _ _) (c .before .match .keys1) refl (to-last (s .pre) (c .plain-date .ensures))
 
 returns-2 : tie.Need-returns-2
 unfolding calendar lookup
-returns-2 c = let s = c .before .before in on-arm 2 (λ K. PlaceOf K (s .args .day) _ _ _) (c .before .match .keys2) refl (c .plain-date2 .ensures)
+returns-2 c = let s = c .before .before in on-arm 2 (λ K. PlaceTo K (lastOf K) (s .args .day) _ _ _) (c .before .match .keys2) refl (to-last (s .pre) (c .plain-date2 .ensures))
 
 returns-3 : tie.Need-returns-3
 unfolding calendar lookup
-returns-3 c = let s = c .before .before in on-arm 3 (λ K. PlaceOf K (s .args .day) _ _ _) (c .before .match .keys3) refl (c .plain-date3 .ensures)
+returns-3 c = let s = c .before .before in on-arm 3 (λ K. PlaceTo K (lastOf K) (s .args .day) _ _ _) (c .before .match .keys3) refl (to-last (s .pre) (c .plain-date3 .ensures))
 
 returns-4 : tie.Need-returns-4
 unfolding calendar lookup
-returns-4 c = let s = c .before .before in on-arm 4 (λ K. PlaceOf K (s .args .day) _ _ _) (c .before .match .keys4) refl (c .persian-date .ensures)
+returns-4 c = let s = c .before .before in on-arm 4 (λ K. PlaceTo K (lastOf K) (s .args .day) _ _ _) (c .before .match .keys4) refl (to-last (s .pre) (c .persian-date .ensures))
 
 returns-5 : tie.Need-returns-5
 unfolding calendar lookup
-returns-5 c = let s = c .before .before in on-arm 5 (λ K. PlaceOf K (s .args .day) _ _ _) (c .before .match .keys5) refl (c .coptic-date .ensures)
+returns-5 c = let s = c .before .before in on-arm 5 (λ K. PlaceTo K (lastOf K) (s .args .day) _ _ _) (c .before .match .keys5) refl (to-last (s .pre) (c .coptic-date .ensures))
 
 returns-6 : tie.Need-returns-6
 unfolding calendar lookup
-returns-6 c = let s = c .before .before in on-arm 6 (λ K. PlaceOf K (s .args .day) _ _ _) (c .before .match .keys6) refl (c .coptic-date2 .ensures)
+returns-6 c = let s = c .before .before in on-arm 6 (λ K. PlaceTo K (lastOf K) (s .args .day) _ _ _) (c .before .match .keys6) refl (to-last (s .pre) (c .coptic-date2 .ensures))
 
 returns-7 : tie.Need-returns-7
 unfolding calendar lookup
-returns-7 c = let s = c .before .before in on-arm 7 (λ K. PlaceOf K (s .args .day) _ _ _) (c .before .match .keys7) refl (c .coptic-date3 .ensures)
+returns-7 c = let s = c .before .before in on-arm 7 (λ K. PlaceTo K (lastOf K) (s .args .day) _ _ _) (c .before .match .keys7) refl (c .republican-date .ensures)
 
 returns-8 : tie.Need-returns-8
 unfolding calendar lookup
-returns-8 c = let s = c .before .before in on-arm 8 (λ K. PlaceOf K (s .args .day) _ _ _) (c .before .match .keys8) refl (c .macedonian-date .ensures)
+returns-8 c = let s = c .before .before in on-arm 8 (λ K. PlaceTo K (lastOf K) (s .args .day) _ _ _) (c .before .match .keys8) refl (to-last (s .pre) (c .macedonian-date .ensures))
 
 returns-9 : tie.Need-returns-9
 unfolding calendar lookup
-returns-9 c = let s = c .before .before in on-arm 9 (λ K. PlaceOf K (s .args .day) _ _ _) (c .before .match .keys9) refl (c .syrian-date .ensures)
+returns-9 c = let s = c .before .before in on-arm 9 (λ K. PlaceTo K (lastOf K) (s .args .day) _ _ _) (c .before .match .keys9) refl (to-last (s .pre) (c .syrian-date .ensures))
 
 returns-10 : tie.Need-returns-10
 unfolding calendar lookup
-returns-10 c = let s = c .before .before in on-arm 10 (λ K. PlaceOf K (s .args .day) _ _ _) (c .before .match .keys10) refl (c .julian-date .ensures)
+returns-10 c = let s = c .before .before in on-arm 10 (λ K. PlaceTo K (lastOf K) (s .args .day) _ _ _) (c .before .match .keys10) refl (to-last (s .pre) (c .julian-date .ensures))
 
 returns-11 : tie.Need-returns-11
 unfolding calendar lookup
-returns-11 c = let s = c .before .before in on-arm 11 (λ K. PlaceOf K (s .args .day) _ _ _) (c .before .match .keys11) refl (c .gregorian-date .ensures)
+returns-11 c = let s = c .before .before in on-arm 11 (λ K. PlaceTo K (lastOf K) (s .args .day) _ _ _) (c .before .match .keys11) refl (to-last (s .pre) (c .gregorian-date .ensures))
 
 returns-12 : tie.Need-returns-12
 unfolding calendar lookup
-returns-12 c = let s = c .before .before in on-arm 12 (λ K. PlaceOf K (s .args .day) _ _ _) (c .before .match .keys12) refl (c .date-on .ensures)
+returns-12 c = let s = c .before .before in on-arm 12 (λ K. PlaceTo K (lastOf K) (s .args .day) _ _ _) (c .before .match .keys12) refl (to-last (s .pre) (c .date-on .ensures))
 
 returns-13 : tie.Need-returns-13
 unfolding calendar lookup
-returns-13 c = let s = c .before .before in on-arm 13 (λ K. PlaceOf K (s .args .day) _ _ _) (c .before .match .keys13) refl (c .date-on2 .ensures)
+returns-13 c = let s = c .before .before in on-arm 13 (λ K. PlaceTo K (lastOf K) (s .args .day) _ _ _) (c .before .match .keys13) refl (to-last (s .pre) (c .date-on2 .ensures))
 
 returns-14 : tie.Need-returns-14
 unfolding calendar lookup
-returns-14 c = let s = c .before .before in on-arm 14 (λ K. PlaceOf K (s .args .day) _ _ _) (c .before .match .keys14) refl (c .date-on3 .ensures)
+returns-14 c = let s = c .before .before in on-arm 14 (λ K. PlaceTo K (lastOf K) (s .args .day) _ _ _) (c .before .match .keys14) refl (to-last (s .pre) (c .date-on3 .ensures))
 
 returns-15 : tie.Need-returns-15
 unfolding calendar lookup
-returns-15 c = let s = c .before .before in on-arm 15 (λ K. PlaceOf K (s .args .day) _ _ _) (c .before .match .keys15) refl (c .date-on4 .ensures)
+returns-15 c = let s = c .before .before in on-arm 15 (λ K. PlaceTo K (lastOf K) (s .args .day) _ _ _) (c .before .match .keys15) refl (to-last (s .pre) (c .date-on4 .ensures))
 
 returns-16 : tie.Need-returns-16
 unfolding calendar lookup
-returns-16 c = let s = c .before .before in on-arm 18 (λ K. PlaceOf K (s .args .day) _ _ _) (c .before .match .keys16) refl (c .date-on5 .ensures .in-time (s .pre))
+returns-16 c = let s = c .before .before in on-arm 18 (λ K. PlaceTo K (lastOf K) (s .args .day) _ _ _) (c .before .match .keys16) refl (c .date-on5 .ensures)
 
 returns-17 : tie.Need-returns-17
 returns-17 c =
@@ -138,7 +140,7 @@ place-on-spec =
     persian-date-requires
     coptic-date-requires
     coptic-date-requires-2
-    coptic-date-requires-3
+    republican-date-requires
     macedonian-date-requires
     syrian-date-requires
     julian-date-requires

@@ -1,5 +1,6 @@
 -- `measuring::later_length` meets its contract.
 use mathlib.Core.Path.{_≡_, refl}
+use Rattle.counting.specs.Answers.{years}
 use Rattle.calendar_rules.specs.Calendars.{lookup, calendar}
 use Rattle.months.specs.Parts.{lengthAt}
 use Rattle.asking.proofs.Arms.{none-left, nobody, on-arm, off-arm}
@@ -85,8 +86,9 @@ returns-6 c =
     let s = c .before .before in
     on-arm 6 (λ K. _ ≡ lengthAt K (s .args .i) (s .args .p)) (c .before .match .keys6) refl (c .coptic-length2 .ensures 1825030)
 
+-- (an end does not change the years)
 returns-7 : tie.Need-returns-7
-unfolding calendar lookup
+unfolding calendar lookup years
 returns-7 c =
     let s = c .before .before in
     on-arm 7 (λ K. _ ≡ lengthAt K (s .args .i) (s .args .p)) (c .before .match .keys7) refl (c .coptic-length3 .ensures 2375840)

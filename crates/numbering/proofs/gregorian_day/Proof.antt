@@ -92,7 +92,7 @@ returns-2 c =
     let i = within (e .before) in
     let x : YearIn 11 (s .args .year) =
     record { calendar = gregorian; listed = record { row = refl }; inside = rw (i .not-early, i .not-late) refl } in
-    packed-there x (s .args .month) (s .args .day) (c .gregorian-day .result) (eqb-false _ _ (neither _ _ (e .if2 .left) .0))
+    packed-there x (s .args .month) refl (s .args .day) (c .gregorian-day .result) (eqb-false _ _ (neither _ _ (e .if2 .left) .0))
     (subst (λ (n : ℕ). PackedAt gregorian n (s .args .month - 1) (s .args .day) (c .gregorian-day .result)) (years (c .before) .years) (c .gregorian-day .ensures))
 
 returns-3 : tie.Need-returns-3

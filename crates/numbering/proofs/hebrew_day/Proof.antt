@@ -1,24 +1,23 @@
 -- `numbering::hebrew_day` meets its contract.
 use mathlib.Core.Path.{_≡_, refl, sym, _∙_}
 use mathlib.Core.Option.{Option}
-use mathlib.Core.Bool.{true, false, cond, true≢false}
-use Prim.Native.Nat.{ℕ, _+_, _-_, _*_, _^_, _≤_}
+use mathlib.Core.Bool.{true, false, true≢false}
+use Prim.Native.Nat.{ℕ, _+_, _-_, _≤_}
 use native.Mathlib.Omega.{arith}
 use lib.IntN.{pos, _-ℤ_}
-use lib.Dec.{ltb}
 use lib.Signed.{ltZ}
 use mir.Syntax.{w64}
 use mir.Val.{SFits, toZ, ofZ}
 use mir.ValLaws.{toZ-ofZ}
 use Rattle.counting.specs.Years.{yearsFrom}
-use Rattle.counting.specs.Answers.{Calendar, lastYear, lastDay, yearOut, noMonth}
+use Rattle.counting.specs.Answers.{Calendar, lastYear, yearOut, noMonth}
 use Rattle.counting.proofs.Signs.{placed, years-small}
 use Rattle.calendar_rules.specs.Calendars.{hebrew, lookup, calendar}
 use Rattle.calendar_rules.specs.Answers.{dayAnswer}
 use Rattle.months.specs.Parts.{MonthOf}
-use Rattle.asking.specs.Steps.{OfListed, Sought, packedDay, noneNumber, packedNone}
+use Rattle.asking.specs.Steps.{OfListed, Sought, inRange, endTried, packedDay, noneNumber, packedNone}
 use Rattle.asking.proofs.Arms.{arm, never}
-use Rattle.asking.proofs.Answers.{day-none, nowhere-0, not-found, found}
+use Rattle.asking.proofs.Answers.{day-none, nowhere-0, not-found, found, end-of-other}
 use borrow.Author.Needs.{needs}
 use Rattle.numbering.proofs.hebrew_day.Statement.{statement}
 use Rattle.numbering.proofs.hebrew_day.Tie as tie
@@ -91,7 +90,7 @@ there : (e : tie.Else4)
     let s = m .before .before .before .before in
     let n = m .month-at .result .start + (s .args .day - 1) in
     (1 ≤ s .args .day) × (s .args .day ≤ 385) × (m .month-at .result .start ≤ 20000000)
-    × (cond (ltb lastDay n) (5 * 2 ^ 32) n ≡ packedDay (dayAnswer 18 (s .args .year) (s .args .month) (s .args .day)))
+    × (endTried 18 (inRange n) ≡ packedDay (dayAnswer 18 (s .args .year) (s .args .month) (s .args .day)))
 there e =
     let m = e .before .before in
     let s = m .before .before .before .before in
@@ -141,7 +140,11 @@ in-time-requires : tie.Need-in-time-requires
 in-time-requires c κs = search needs
 
 returns-5 : tie.Need-returns-5
-returns-5 c = c .in-time .ensures ∙ there (c .before .before) .3
+returns-5 c =
+    let e = c .before .before in
+    let m = e .before .before in
+    let n = m .month-at .result .start + (m .before .before .before .before .args .day - 1) in
+    c .in-time .ensures ∙ end-of-other (inRange n) (omega arith) ∙ there e .3
 
 pub hebrew-day-spec : {M : Type 1} → statement M
 hebrew-day-spec =

@@ -1,5 +1,6 @@
 -- `numbering::later_month` meets its contract.
 use mathlib.Core.Path.{refl}
+use Rattle.counting.specs.Answers.{years}
 use Rattle.calendar_rules.specs.Calendars.{lookup, calendar}
 use Rattle.months.specs.Parts.{MonthOf}
 use Rattle.asking.proofs.Arms.{none-left, nobody, on-arm, off-arm}
@@ -73,8 +74,9 @@ returns-6 : tie.Need-returns-6
 unfolding calendar lookup
 returns-6 c = let s = c .before .before in on-arm 6 (λ K. MonthOf K (s .args .i) (s .args .p) _ _) (c .before .match .keys6) refl (c .coptic-month2 .ensures)
 
+-- (an end does not change the years)
 returns-7 : tie.Need-returns-7
-unfolding calendar lookup
+unfolding calendar lookup years
 returns-7 c = let s = c .before .before in on-arm 7 (λ K. MonthOf K (s .args .i) (s .args .p) _ _) (c .before .match .keys7) refl (c .coptic-month3 .ensures)
 
 returns-8 : tie.Need-returns-8

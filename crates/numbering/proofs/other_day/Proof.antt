@@ -1,20 +1,19 @@
 -- `numbering::other_day` meets its contract.
-use mathlib.Core.Path.{_≡_, sym, subst, _∙_}
-use Prim.Native.Nat.{ℕ, _+_, _-_, _*_, _^_, _≤_}
-use lib.Dec.{ltb}
+use mathlib.Core.Path.{_≡_, sym, ap, subst, _∙_}
+use Prim.Native.Nat.{ℕ, _+_, _-_, _≤_}
 use native.Mathlib.Omega.{arith}
-use mathlib.Core.Bool.{true, cond, _||_}
+use mathlib.Core.Bool.{true, _||_}
 use lib.IntN.{ℤ, negsuc}
 use lib.Signed.{ltZ}
 use mir.Syntax.{w64}
 use mir.Val.{toZ, ofZ}
 use mir.ValLaws.{toZ-ofZ}
-use Rattle.counting.specs.Answers.{Calendar, lastYear, lastDay}
+use Rattle.counting.specs.Answers.{Calendar, lastYear}
 use Rattle.calendar_rules.specs.Answers.{dayAnswer}
 use Rattle.months.specs.Parts.{MonthOf}
-use Rattle.asking.specs.Steps.{yearInside, packedDay, Sought}
+use Rattle.asking.specs.Steps.{yearInside, inRange, endTried, packedDay, Sought}
 use Rattle.asking.proofs.Since.{outside, Since, since}
-use Rattle.asking.proofs.Answers.{day-none, nowhere-year, nowhere-0, not-found, found}
+use Rattle.asking.proofs.Answers.{day-none, nowhere-year, nowhere-0, not-found, found, none-stays, not-found-stays}
 use borrow.Author.Needs.{needs}
 use Rattle.numbering.proofs.other_day.Statement.{statement}
 use Rattle.numbering.proofs.other_day.Tie as tie
@@ -53,7 +52,7 @@ there : (e : tie.Else3)
     let s = m .before .before .before .before .before in
     let n = m .month-in .result .start + (s .args .day - 1) in
     (1 ≤ s .args .day) × (s .args .day ≤ 385) × (m .month-in .result .start ≤ 20000000)
-    × (cond (ltb lastDay n) (5 * 2 ^ 32) n ≡ packedDay (dayAnswer (s .args .calendar) (s .args .year) (s .args .month) (s .args .day)))
+    × (endTried (s .args .calendar) (inRange n) ≡ packedDay (dayAnswer (s .args .calendar) (s .args .year) (s .args .month) (s .args .day)))
 there e =
     let m = e .before .before in
     let s = m .before .before .before .before .before in
@@ -70,7 +69,7 @@ returns c =
     let t = c .before in
     let s = t .before .before .before in
     let n = s .args .calendar in
-    (rw (year-is s) at (c .no-month .ensures)) ∙ day-none n (s .args .year) (s .args .month) (nowhere-0 n (s .args .year) (s .args .month) (t .if2 .taken))
+    ap (endTried n) (rw (year-is s) at (c .no-month .ensures)) ∙ none-stays n (s .args .year) ∙ day-none n (s .args .year) (s .args .month) (nowhere-0 n (s .args .year) (s .args .month) (t .if2 .taken))
     (s .args .day)
 
 since-requires : tie.Need-since-requires
@@ -90,7 +89,7 @@ returns-2 c =
     let t = c .before in
     let m = t .before .before in
     let s = m .before .before .before .before .before in
-    (rw (year-is s) at (c .no-day .ensures)) ∙ not-found (s .args .month) (month m) (m .before .before .if2 .left) (s .args .day) (t .if3 .taken)
+    ap (endTried (s .args .calendar)) (rw (year-is s) at (c .no-day .ensures)) ∙ not-found-stays (s .args .calendar) (s .args .year) (m .month-in .result .days) ∙ not-found (s .args .month) (month m) (m .before .before .if2 .left) (s .args .day) (t .if3 .taken)
 
 sub-in-time : tie.Need-sub-in-time
 sub-in-time c = there c .0
@@ -102,7 +101,10 @@ in-time-requires : tie.Need-in-time-requires
 in-time-requires c κs = search needs
 
 returns-3 : tie.Need-returns-3
-returns-3 c = c .in-time .ensures ∙ there (c .before .before) .3
+returns-3 c =
+    let e = c .before .before in
+    let s = e .before .before .before .before .before .before .before in
+    ap (endTried (s .args .calendar)) (c .in-time .ensures) ∙ there e .3
 
 no-month-requires-2 : tie.Need-no-month-requires-2
 no-month-requires-2 c κs = search needs
@@ -112,7 +114,7 @@ returns-4 c =
     let e = c .before in
     let s = e .before .before in
     let n = s .args .calendar in
-    (rw (year-is s) at (c .no-month2 .ensures))
+    ap (endTried n) (rw (year-is s) at (c .no-month2 .ensures)) ∙ none-stays n (s .args .year)
     ∙ day-none n (s .args .year) (s .args .month) (nowhere-year n (s .args .year) (s .args .month) (left e)) (s .args .day)
 
 pub other-day-spec : {M : Type 1} → statement M
