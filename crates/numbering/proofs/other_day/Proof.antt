@@ -69,7 +69,8 @@ returns c =
     let t = c .before in
     let s = t .before .before .before in
     let n = s .args .calendar in
-    ap (endTried n) (rw (year-is s) at (c .no-month .ensures)) ∙ none-stays n (s .args .year) ∙ day-none n (s .args .year) (s .args .month) (nowhere-0 n (s .args .year) (s .args .month) (t .if2 .taken))
+    ap (endTried n) (rw (year-is s) at (c .no-month .ensures)) ∙ none-stays n (s .args .year)
+    ∙ day-none n (s .args .year) (s .args .month) (nowhere-0 n (s .args .year) (s .args .month) (t .if2 .taken))
     (s .args .day)
 
 since-requires : tie.Need-since-requires
@@ -89,7 +90,9 @@ returns-2 c =
     let t = c .before in
     let m = t .before .before in
     let s = m .before .before .before .before .before in
-    ap (endTried (s .args .calendar)) (rw (year-is s) at (c .no-day .ensures)) ∙ not-found-stays (s .args .calendar) (s .args .year) (m .month-in .result .days) ∙ not-found (s .args .month) (month m) (m .before .before .if2 .left) (s .args .day) (t .if3 .taken)
+    ap (endTried (s .args .calendar)) (rw (year-is s) at (c .no-day .ensures))
+    ∙ not-found-stays (s .args .calendar) (s .args .year) (m .month-in .result .days)
+    ∙ not-found (s .args .month) (month m) (m .before .before .if2 .left) (s .args .day) (t .if3 .taken)
 
 sub-in-time : tie.Need-sub-in-time
 sub-in-time c = there c .0
