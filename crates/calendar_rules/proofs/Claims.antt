@@ -1,42 +1,47 @@
 -- What is shown of the sixteen calendars, on one page. It rests on these definitions: the rows (`table`, `calendar` of specs/Calendars.antt), what is answered
--- for a number (`dayAnswer`, `dateAnswer`, `lengthAnswer` of specs/Answers.antt; an answer whose number is 0 is no refusal), and of crate counting what a
--- calendar answers (`dayFor`, `dateFor`, `lengthFor`), the date that follows (`next`), a date counted from the first year (`Date`), the order of dates
--- (`Earlier`) and which number is given (`Given`).
+-- for a number (`dayAnswer`, `dateAnswer`, `positionAnswer` of specs/Answers.antt; an answer whose number is 0 is no refusal), and of crate counting what a
+-- calendar answers (`dayFor`, `dateFor`, `positionFor`), the date that follows (`next`), a date counted from the first year (`Date`), the order of dates
+-- (`Earlier`), which number is given (`Given`) and the cases of a position (`Is`).
 -- What counting's claims page shows of any calendar in which every year has days holds of each that is listed; here it is said by number.
-use mathlib.Core.Path.{_≡_, refl, ap, _∙_}
+use mathlib.Core.Path.{_≡_, refl, sym, ap, subst, _∙_}
 use mathlib.Core.Bool.{Bool, true, false, cond}
-use mathlib.Core.Logic.{_⊎_, _↔_}
+use mathlib.Core.Logic.{_⊎_, ⊎-elim, _↔_}
 use mathlib.Core.List.{_∷_}
 use mathlib.Core.Option.{Option}
-use Prim.Native.Nat.{ℕ, suc, _≤_, _<_}
+use Prim.Native.Nat.{ℕ, suc, _+_, _≤_, _<_}
 use native.Mathlib.Omega.{arith}
 use lib.Dec.{eqb}
 use lib.IntN.{ℤ, pos}
+use lib.ListN.{length}
 use Rattle.basics.specs.Every.{All}
-use Rattle.counting.specs.Calendar.{Date, total, next}
+use Rattle.counting.specs.Calendar.{Date, total, start, next}
 use Rattle.counting.specs.Years.{yearsFrom}
-use Rattle.counting.specs.Answers.{Calendar, years, DayAnswer, DateAnswer, LengthAnswer, lastDay, dateOn, dated, dayFor, dateFor, lengthFor, IsDate}
+use Rattle.counting.specs.Answers.{Calendar, years, DayAnswer, noDayAnswer, DateAnswer, lastDay, yearOut, dateOn, dated, dayFor, dateFor, IsDate}
 use Rattle.counting.specs.Answers.{lastWith, lastOf, Proper}
+use Rattle.counting.specs.Positions.{PositionAnswer, noPositionAnswer, positionFor, Case, Is, sumTo}
 use Rattle.counting.specs.Order.{Earlier}
 use Rattle.counting.specs.Given.{Given, dateOrder, dayOrder, positionOrder, OfDate, OfDay, OfPosition}
 use Rattle.counting.proofs.Given as G
 use Rattle.counting.proofs.Claims as C
+use Rattle.counting.proofs.Positions as Q
 use Rattle.counting.proofs.Rounds.{given-exactly}
+use Rattle.hebrew.specs.Hebrew.{leap}
 use Rattle.calendar_rules.specs.Calendars.{republican, calendar, Listed}
-use Rattle.calendar_rules.specs.Answers.{ofListed, dayAnswer, dateAnswer, lengthAnswer}
-use Rattle.calendar_rules.specs.Given.{Asked}
+use Rattle.calendar_rules.specs.Answers.{ofListed, dayAnswer, dateAnswer, positionAnswer}
+use Rattle.calendar_rules.specs.Given.{Asked, StripAt}
 use Rattle.calendar_rules.specs.Examples as E
 use Rattle.calendar_rules.specs.Examples.{Answered}
 use Rattle.calendar_rules.proofs.Bounds as B
 use Rattle.calendar_rules.proofs.Ends as N
 use Rattle.calendar_rules.proofs.Examples as X
 use Rattle.calendar_rules.proofs.Given.{asked}
+use Rattle.calendar_rules.proofs.Positions as P
 use Rattle.calendar_rules.proofs.Listed.{Sound, listed-sound, sound-proper, endIf, end-is}
 
 -- ---- a number that is listed: the answers are its calendar's
 
 module _ {c : ℕ} {K : Calendar} (l : Listed c K) where
-  sound : Sound K
+  sound : Sound c K
   sound = listed-sound l
 
   -- one that counting's theorems are about
@@ -51,9 +56,9 @@ module _ {c : ℕ} {K : Calendar} (l : Listed c K) where
   unfolding dateAnswer
   date-asked n = rw (l .row) refl
 
-  pub length-asked : (y : ℤ) (m : ℕ) → lengthAnswer c y m ≡ lengthFor K y m
-  unfolding lengthAnswer
-  length-asked y m = rw (l .row) refl
+  pub position-asked : (y : ℤ) (m : ℕ) → positionAnswer c y m ≡ positionFor K y m
+  unfolding positionAnswer
+  position-asked y m = rw (l .row) refl
 
   -- day to date is counting one by one from the listed first day: the first day is 1/1 of the first year,
   pub first-day : dateAnswer c (K .firstDay) ≡ record { number = 0; year = K .firstYear; month = 1; day = 1 }
@@ -91,9 +96,9 @@ pub date-listed : (c n : ℕ) → dateAnswer c n .number ≡ 0 → (K : Calendar
 unfolding dateAnswer
 date-listed c n = was-listed (λ (a : DateAnswer). a .number) c _ _ (λ e. omega arith)
 
-pub length-listed : (c : ℕ) (y : ℤ) (m : ℕ) → lengthAnswer c y m .number ≡ 0 → (K : Calendar) × Listed c K
-unfolding lengthAnswer
-length-listed c y m = was-listed (λ (a : LengthAnswer). a .number) c _ _ (λ e. omega arith)
+pub position-listed : (c : ℕ) (y : ℤ) (m : ℕ) → positionAnswer c y m .number ≡ 0 → (K : Calendar) × Listed c K
+unfolding positionAnswer
+position-listed c y m = was-listed (λ (a : PositionAnswer). a .number) c _ _ (λ e. omega arith)
 
 -- ---- which number is answered: k exactly where the rules' table gives k (`Given` and what applies: specs/Given.antt, and that of crate counting)
 
@@ -105,17 +110,10 @@ pub date-number : (c n k : ℕ) → (dateAnswer c n .number ≡ k) ↔ Given (As
 unfolding dateAnswer
 date-number c n = G.exactly (asked (λ (a : DateAnswer). a .number) c _ _ _ refl (λ K. G.no-1 K n) (λ K. G.date-given K n))
 
-pub length-number : (c : ℕ) (y : ℤ) (m k : ℕ) → (lengthAnswer c y m .number ≡ k) ↔ Given (Asked c (λ K. OfPosition K y m)) (1 ∷ positionOrder) k
-unfolding lengthAnswer
-length-number c y m = G.exactly (asked (λ (a : LengthAnswer). a .number) c _ _ _ refl (λ K a. G.not-1 K y m 0 (a 0)) (λ K. G.length-given K y m))
-
--- the length of a position: date to day refuses its day d with 4 exactly outside 1 to that length
-pub length-days : (c : ℕ) (y : ℤ) (m : ℕ) → lengthAnswer c y m .number ≡ 0
-    → (d : ℕ) → (dayAnswer c y m d .number ≡ 4) ↔ ((d ≡ 0) ⊎ (lengthAnswer c y m .days < d))
-length-days c y m e d =
-    let l = length-listed c y m e in
-    let a = length-asked (l .1) y m in
-    rw (a, day-asked (l .1) y m d) (G.day-of-length (l .0) y m (rw a at e) d)
+pub position-number : (c : ℕ) (y : ℤ) (m k : ℕ) → (positionAnswer c y m .number ≡ k) ↔ Given (Asked c (λ K. OfPosition K y m)) (1 ∷ positionOrder) k
+unfolding positionAnswer
+position-number c y m =
+    G.exactly (asked (λ (a : PositionAnswer). a .number) c _ _ _ refl (λ K. G.position-not-1 K y m) (λ K. G.position-given K y m))
 
 -- date to day agrees with counting: the day that a date is given is the one that counting reaches the date on
 pub counted : (c : ℕ) (y : ℤ) (m d : ℕ) → dayAnswer c y m d .number ≡ 0
@@ -154,6 +152,64 @@ ordered c y m d y′ m′ d′ e e′ =
     let a′ = day-asked (l .1) y′ m′ d′ in
     rw (a, a′) (C.dates-ordered (l .0) (listed-proper (l .1)) y m d y′ m′ d′ (rw a at e) (rw a′ at e′))
 
+-- ---- the positions of a year
+
+-- a position is in one case, a month or a strip or none or refused, and in no other
+pub one-case : (c : ℕ) (y : ℤ) (m : ℕ) → (x : Case) × Is x (positionAnswer c y m) × ((x′ : Case) → Is x′ (positionAnswer c y m) → x′ ≡ x)
+unfolding positionAnswer
+one-case c y m = go (calendar c)
+  where
+    OneCase : PositionAnswer → Type 0
+    OneCase a = (x : Case) × Is x a × ((x′ : Case) → Is x′ a → x′ ≡ x)
+
+    go : (o : Option Calendar) → OneCase (ofListed o (noPositionAnswer 1) (λ K. positionFor K y m))
+    go Option.none = Q.refused-case 1 (omega arith)
+    go (Option.some K) = C.one-case K y m
+
+-- it has days where it is a month or a strip
+abbrev pub HasDays : ℕ → ℤ → ℕ → Type 0
+HasDays c y m = Is Case.month (positionAnswer c y m) ⊎ Is Case.strip (positionAnswer c y m)
+
+-- a date exists exactly where its position has days and its day is from 1 to the length
+pub dates : {c : ℕ} {K : Calendar} → Listed c K → (y : ℤ) (m d : ℕ) → IsDate K y m d ↔ (HasDays c y m × (1 ≤ d) × (d ≤ positionAnswer c y m .days))
+dates {c} {K} l y m d = rw (position-asked l y m) (C.dates K y m d)
+
+-- date to day refuses 4 for the other days of such a position, and for no more,
+pub other-days : (c : ℕ) (y : ℤ) (m : ℕ) → HasDays c y m → (d : ℕ) → (dayAnswer c y m d .number ≡ 4) ↔ ((d ≡ 0) ⊎ (positionAnswer c y m .days < d))
+other-days c y m h d =
+    let l = position-listed c y m (⊎-elim (λ i. i .0) (λ i. i .0) h) in
+    let a = position-asked (l .1) y m in
+    rw (a, day-asked (l .1) y m d) (C.other-days (l .0) y m (rw a at h) d)
+
+-- and 3 for every date of a position that is none
+pub none-dates : (c : ℕ) (y : ℤ) (m : ℕ) → Is Case.none (positionAnswer c y m) → (d : ℕ) → dayAnswer c y m d ≡ noDayAnswer 3
+none-dates c y m i d =
+    let l = position-listed c y m (i .0) in
+    rw (day-asked (l .1) y m d) (C.none-dates (l .0) y m (rw (position-asked (l .1) y m) at i) d)
+
+-- none is exactly position 7 of a common Hebrew year
+pub none-exactly : (c : ℕ) (y : ℤ) (m : ℕ)
+    → Is Case.none (positionAnswer c y m) ↔ ((c ≡ 18) × (m ≡ 7) × ((n : ℕ) × (y ≡ pos n) × (1 ≤ n) × (n ≤ 20000) × (leap n ≡ false)))
+none-exactly c y m = (to, λ x. rw (x .0) (rw (position-asked P.listed-18 y m) (P.hebrew-none y m .1 (x .1, x .2))))
+  where
+    to : Is Case.none (positionAnswer c y m) → (c ≡ 18) × (m ≡ 7) × ((n : ℕ) × (y ≡ pos n) × (1 ≤ n) × (n ≤ 20000) × (leap n ≡ false))
+    to i =
+        let l = position-listed c y m (i .0) in
+        let j = rw (position-asked (l .1) y m) at i in
+        let e = P.none-of (l .1) y m j in
+        let h = P.hebrew-none y m .0 (subst (λ (C : Calendar). Is Case.none (positionFor C y m)) (P.is-hebrew (l .1) e) j) in
+        (e, h .0, h .1)
+
+-- a strip is exactly what the request lists (`StripAt` of specs/Given.antt), in every year that the calendar has
+pub strip-exactly : {c : ℕ} {K : Calendar} → Listed c K → (y : ℤ) (m : ℕ) → Is Case.strip (positionAnswer c y m) ↔ ((yearOut K y ≡ false) × StripAt c m)
+strip-exactly l y m = rw (position-asked l y m) (P.strips l y m)
+
+-- the lengths of all positions of a year are the days from its beginning to that of the next
+pub year-lengths : {c : ℕ} {K : Calendar} → Listed c K → (y : ℤ) → yearOut K y ≡ false → (n : ℕ) → length (K .lengths y) ≤ n
+    → let i = yearsFrom (K .firstYear) y in start (years K) (suc i) ≡ start (years K) i + sumTo (λ m. positionAnswer c y m .days) n
+year-lengths {c} {K} l y o n h =
+    C.year-days K y o n h ∙ ap (λ (f : ℕ → ℕ). start (years K) (yearsFrom (K .firstYear) y) + sumTo f n) (λ j m. sym (position-asked l y m) j .days)
+
 -- ---- the end: 5,373,484 is the last day that has a date, but in the Republican calendar, which ended
 
 pub last-day : {c : ℕ} {K : Calendar} → Listed c K → lastOf K ≡ cond (eqb c 7) 2380687 5373484
@@ -180,7 +236,7 @@ pub republican-days : (n : ℕ) → 2375840 ≤ n → n ≤ 2380687
     → let x = dateAnswer 7 n in (x .number ≡ 0) × (dayAnswer 7 (x .year) (x .month) (x .day) ≡ record { number = 0; day = n })
 republican-days = every-day N.listed-7
 
--- ---- worked examples (specs/Examples.antt): of each row a date and its day, and what is answered at the limits and at the Republican end
+-- ---- worked examples (specs/Examples.antt): of each row a date and its day, what is answered at the limits and at the Republican end, and to positions
 
 pub rows : All Answered E.rows
 rows = X.rows-answered
@@ -190,3 +246,6 @@ limits = X.limits-answered
 
 pub ends : All Answered E.ends
 ends = X.ends-answered
+
+pub positions : All Answered E.positions
+positions = X.positions-answered

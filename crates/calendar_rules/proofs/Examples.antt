@@ -4,13 +4,14 @@ use Prim.Native.Nat.{ℕ}
 use lib.IntN.{ℤ, pos}
 use Rattle.basics.specs.Every.{All}
 use Rattle.counting.specs.Calendar.{total, start, dayOf, firstFrom, newYear, dateAt}
-use Rattle.counting.specs.Answers.{Calendar, years, DayAnswer, dayFor, dateFor, lengthFor}
+use Rattle.counting.specs.Answers.{Calendar, years, DayAnswer, dayFor, dateFor}
+use Rattle.counting.specs.Positions.{positionFor}
 use Rattle.counting.proofs.Claims.{there-and-back}
 use Rattle.hebrew.specs.Hebrew.{leap, monthsIn, monthsBefore, moon, moonDay, moonHour, secondApplies, thirdApplies, moved, fourthApplies, fourth, ofTotal}
 use Rattle.hebrew.specs.Hebrew.{newYear as hebrewNewYear, lengths as hebrewLengths}
 use Rattle.calendar_rules.specs.Calendars.{republican, gregorian, lookup, calendar, Listed}
-use Rattle.calendar_rules.specs.Answers.{dayAnswer, dateAnswer, lengthAnswer}
-use Rattle.calendar_rules.specs.Examples.{Answered, rows, limits, ends}
+use Rattle.calendar_rules.specs.Answers.{dayAnswer, dateAnswer, positionAnswer}
+use Rattle.calendar_rules.specs.Examples.{Answered, rows, limits, ends, positions}
 use Rattle.calendar_rules.proofs.Listed.{listed-sound, sound-proper}
 
 pub rows-answered : All Answered rows
@@ -32,7 +33,7 @@ unfolding calendar lookup dayFor years dayOf start total
 last-day = from-date gregorian (record { row = refl }) (pos 9999) 12 31 5373484 refl
 
 pub limits-answered : All Answered limits
-unfolding dayAnswer dateAnswer lengthAnswer calendar lookup dayFor dateFor lengthFor years dayOf start total dateAt newYear firstFrom
+unfolding dayAnswer dateAnswer positionAnswer calendar lookup dayFor dateFor positionFor years dayOf start total dateAt newYear firstFrom
 limits-answered =
     (refl, (refl, (last-day, (refl, (refl, (refl, (refl, (refl, (refl, (refl, (refl, (refl, (refl, (refl, (refl, (refl, tt))))))))))))))))
 
@@ -41,6 +42,13 @@ unfolding calendar lookup dayFor years dayOf start total
 end-day = from-date republican (record { row = refl }) (pos 14) 4 10 2380687 refl
 
 pub ends-answered : All Answered ends
-unfolding dayAnswer dateAnswer lengthAnswer calendar lookup dayFor dateFor lengthFor years dayOf start total
+unfolding dayAnswer dateAnswer positionAnswer calendar lookup dayFor dateFor positionFor years dayOf start total
 ends-answered =
     (refl, (refl, (refl, (refl, (refl, (end-day, (refl, (refl, (refl, tt)))))))))
+
+pub positions-answered : All Answered positions
+unfolding dayAnswer positionAnswer calendar lookup dayFor positionFor total
+    leap monthsIn monthsBefore moon moonDay moonHour secondApplies thirdApplies moved fourthApplies fourth hebrewNewYear ofTotal hebrewLengths
+positions-answered =
+    (refl, (refl, (refl, (refl, (refl, (refl, (refl, (refl, (refl, (refl, (refl, (refl, (refl, (refl, (refl, (refl, (refl, (refl, (refl, (refl, (refl, (refl,
+    (refl, (refl, (refl, (refl, tt))))))))))))))))))))))))))

@@ -1,24 +1,26 @@
--- What holds of each row of the table holds of each calendar that a number is listed for: its years are bounded, its first year and its first day are small.
+-- What holds of each row of the table holds of each calendar that a number is listed for: its years are bounded, its first year and its first day are small, its
+-- strip is one of its positions, and which positions have no days.
 use mathlib.Core.Path.{_≡_, refl, sym, subst}
-use mathlib.Core.Bool.{Bool, true, false, cond, _&&_}
+use mathlib.Core.Bool.{Bool, true, false, cond, not, _&&_}
 use mathlib.Core.List.{List, [], _∷_}
 use mathlib.Core.Option.{Option}
-use Prim.Native.Nat.{ℕ, _≤_}
+use Prim.Native.Nat.{ℕ, _+_, _≤_}
 use native.Mathlib.Omega.{arith}
-use lib.Dec.{eqb, leb}
+use lib.Dec.{eqb, leb, ltb}
 use lib.IntN.{ℤ}
 use lib.Signed.{mag}
 use borrow.Author.Tests.{leb-true, eqb-true, ne-eqb}
 use Rattle.counting.specs.Calendar.{total, firstFrom}
 use Rattle.counting.specs.Answers.{Calendar, years, lastOf, Proper}
 use Rattle.counting.proofs.Starts.{proper}
-use Rattle.basics.specs.Every.{All}
+use Rattle.basics.specs.Every.{every, All}
 use Rattle.basics.proofs.Cases.{both, _and_}
+use Rattle.hebrew.specs.Hebrew.{leap}
 use Rattle.calendar_rules.specs.Calendars.{table, lookup, calendar, Listed, none, remainder, gregorianLeap, islamicLeap, bahaiLeap, sakaLeap}
 use Rattle.calendar_rules.specs.Calendars.{egyptian, armenian, khwarizmian, persian, ethiopian, coptic, republican, macedonian, syrian, julian}
 use Rattle.calendar_rules.specs.Calendars.{gregorian, islamicA, islamicB, bahai, saka, hebrew}
 use Rattle.calendar_rules.specs.Calendars.{thirtiesAnd5, fiveAt9, thirtiesAnd5or6, fromSeptember, fromOctober, fromJanuary, inTurn, nineteens, sakaMonths}
-use Rattle.calendar_rules.proofs.Bounds.{Bounded, within, bothWithin, year-days, row-bounded, hebrew-bounded}
+use Rattle.calendar_rules.proofs.Bounds.{Bounded, within, year-days, same, gapsAre, stripWithin, bothYears, each-year, hebrew-within}
 
 -- ---- lookup
 
@@ -55,8 +57,10 @@ not-listed c n = not-found c (Unit {0}) table n .1
 
 -- ---- the rows
 
-pub record Sound (K : Calendar) : Type 0 where
+pub record Sound (c : ℕ) (K : Calendar) : Type 0 where
   pub bounded : Bounded (years K)
+  pub gaps : (i : ℕ) → gapsAre (eqb c 18 && not (leap (i + 1))) (years K i) ≡ true
+  pub strip-within : (i : ℕ) → stripWithin (K .strip) (years K i) ≡ true
   pub first-year : mag (K .firstYear) ≤ 4711
   pub first-day : K .firstDay ≤ 2394647
   pub to-last : K .firstDay ≤ lastOf K
@@ -65,51 +69,79 @@ pub record Sound (K : Calendar) : Type 0 where
 small : Calendar → Bool
 small K = leb (mag (K .firstYear)) 4711 && leb (K .firstDay) 2394647 && leb (K .firstDay) (lastOf K)
 
-sound : (K : Calendar) → Bounded (years K) → small K ≡ true → Sound K
+sound : {c : ℕ} (K : Calendar) → Bounded (years K) → ((i : ℕ) → gapsAre (eqb c 18 && not (leap (i + 1))) (years K i) ≡ true)
+    → ((i : ℕ) → stripWithin (K .strip) (years K i) ≡ true)
+    → small K ≡ true
+    → Sound c K
 unfolding small
-sound K y e =
+sound K y g s e =
     let b = both (leb (mag (K .firstYear)) 4711 && leb (K .firstDay) 2394647) (leb (K .firstDay) (lastOf K)) e in
     let f = both (leb (mag (K .firstYear)) 4711) (leb (K .firstDay) 2394647) (b .0) in
     record {
       bounded = y;
+      gaps = g;
+      strip-within = s;
       first-year = leb-true (mag (K .firstYear)) 4711 (f .0);
       first-day = leb-true (K .firstDay) 2394647 (f .1);
       to-last = leb-true (K .firstDay) (lastOf K) (b .1);
     }
 
--- a row, by its lengths in common and leap years
-by-row : (K : Calendar) (positions : Bool → List ℕ) (leap : ℤ → Bool) → ((y : ℤ) → K .lengths y ≡ positions (leap y))
-    → bothWithin positions ≡ true → small K ≡ true
-    → Sound K
-by-row K positions leap same e f = sound K (row-bounded K positions leap same e) f
+-- a list of lengths of a row, in one computed test: every position has days
+whole : Option ℕ → List ℕ → Bool
+whole strip ls = within ls && gapsAre false ls && stripWithin strip ls
 
-rows-sound : All (λ (r : ℕ × Calendar). Sound (r .1)) table
-unfolding bothWithin within total firstFrom small
+-- a row, by its lengths in common and leap years
+by-row : {c : ℕ} (K : Calendar) (positions : Bool → List ℕ) (isLeap : ℤ → Bool) → ((y : ℤ) → K .lengths y ≡ positions (isLeap y))
+    → bothYears (whole (K .strip)) positions ≡ true → small K ≡ true → eqb c 18 ≡ false
+    → Sound c K
+unfolding whole
+by-row K positions isLeap by e f n = sound K (record { each = λ i. tested i .0 .0 }) (λ i. rw n (tested i .0 .1)) (λ i. tested i .1) f
+  where
+    tested : (i : ℕ) → ((within (years K i) ≡ true) × (gapsAre false (years K i) ≡ true)) × (stripWithin (K .strip) (years K i) ≡ true)
+    tested i =
+        let ls = years K i in
+        let b = both (within ls && gapsAre false ls) (stripWithin (K .strip) ls) (each-year (whole (K .strip)) K positions isLeap by e i) in
+        (both (within ls) (gapsAre false ls) (b .0), b .1)
+
+rows-sound : All (λ (r : ℕ × Calendar). Sound (r .0) (r .1)) table
+unfolding bothYears whole within gapsAre same every stripWithin total firstFrom small
 rows-sound =
-    by-row egyptian thirtiesAnd5 none (λ y. refl) refl refl
-    and by-row armenian thirtiesAnd5 none (λ y. refl) refl refl
-    and by-row khwarizmian thirtiesAnd5 none (λ y. refl) refl refl
-    and by-row persian fiveAt9 none (λ y. refl) refl refl
-    and by-row ethiopian thirtiesAnd5or6 (remainder 3 4) (λ y. refl) refl refl
-    and by-row coptic thirtiesAnd5or6 (remainder 3 4) (λ y. refl) refl refl
-    and by-row republican thirtiesAnd5or6 (remainder 3 4) (λ y. refl) refl refl
-    and by-row macedonian fromSeptember (remainder 3 4) (λ y. refl) refl refl
-    and by-row syrian fromOctober (remainder 3 4) (λ y. refl) refl refl
-    and by-row julian fromJanuary (remainder 0 4) (λ y. refl) refl refl
-    and by-row gregorian fromJanuary gregorianLeap (λ y. refl) refl refl
-    and by-row islamicA inTurn islamicLeap (λ y. refl) refl refl
-    and by-row islamicB inTurn islamicLeap (λ y. refl) refl refl
-    and by-row bahai nineteens bahaiLeap (λ y. refl) refl refl
-    and by-row saka sakaMonths sakaLeap (λ y. refl) refl refl
-    and sound hebrew hebrew-bounded refl
+    by-row egyptian thirtiesAnd5 none (λ y. refl) refl refl refl
+    and by-row armenian thirtiesAnd5 none (λ y. refl) refl refl refl
+    and by-row khwarizmian thirtiesAnd5 none (λ y. refl) refl refl refl
+    and by-row persian fiveAt9 none (λ y. refl) refl refl refl
+    and by-row ethiopian thirtiesAnd5or6 (remainder 3 4) (λ y. refl) refl refl refl
+    and by-row coptic thirtiesAnd5or6 (remainder 3 4) (λ y. refl) refl refl refl
+    and by-row republican thirtiesAnd5or6 (remainder 3 4) (λ y. refl) refl refl refl
+    and by-row macedonian fromSeptember (remainder 3 4) (λ y. refl) refl refl refl
+    and by-row syrian fromOctober (remainder 3 4) (λ y. refl) refl refl refl
+    and by-row julian fromJanuary (remainder 0 4) (λ y. refl) refl refl refl
+    and by-row gregorian fromJanuary gregorianLeap (λ y. refl) refl refl refl
+    and by-row islamicA inTurn islamicLeap (λ y. refl) refl refl refl
+    and by-row islamicB inTurn islamicLeap (λ y. refl) refl refl refl
+    and by-row bahai nineteens bahaiLeap (λ y. refl) refl refl refl
+    and by-row saka sakaMonths sakaLeap (λ y. refl) refl refl refl
+    and sound hebrew (record { each = λ i. hebrew-within i .0 }) (λ i. hebrew-within i .1) (λ i. refl) refl
     and tt
 
-pub listed-sound : {c : ℕ} {K : Calendar} → Listed c K → Sound K
-listed-sound l = found-row (λ (r : ℕ × Calendar). Sound (r .1)) rows-sound l
+pub listed-sound : {c : ℕ} {K : Calendar} → Listed c K → Sound c K
+listed-sound l = found-row (λ (r : ℕ × Calendar). Sound (r .0) (r .1)) rows-sound l
 
 -- so counting's theorems are about it
-pub sound-proper : {K : Calendar} → Sound K → Proper K
-sound-proper {K} s = proper K 353 385 15222 (year-days (s .bounded)) (omega arith) (omega arith) (omega (arith, s .first-year))
+pub sound-proper : {c : ℕ} {K : Calendar} → Sound c K → Proper K
+sound-proper {c} {K} s = proper K 353 385 15222 (year-days (s .bounded)) (omega arith) (omega arith) (omega (arith, s .first-year))
+
+-- ---- the strips
+
+abbrev pub stripIf : ℕ → Option ℕ
+stripIf c = cond (eqb c 4) (Option.some 9) (cond (eqb c 14) (Option.some 19) (cond (ltb c 8) (Option.some 13) Option.none))
+
+rows-strip : All (λ (r : ℕ × Calendar). r .1 .strip ≡ stripIf (r .0)) table
+rows-strip =
+    (refl, (refl, (refl, (refl, (refl, (refl, (refl, (refl, (refl, (refl, (refl, (refl, (refl, (refl, (refl, (refl, tt))))))))))))))))
+
+pub strip-is : {c : ℕ} {K : Calendar} → Listed c K → K .strip ≡ stripIf c
+strip-is l = found-row (λ (r : ℕ × Calendar). r .1 .strip ≡ stripIf (r .0)) rows-strip l
 
 -- ---- the ends: calendar 7 has one, and no other
 

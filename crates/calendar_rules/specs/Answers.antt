@@ -1,9 +1,10 @@
 -- What is answered for a calendar's number, by the table of docs/RULES.md, "Answer numbers": 1 where the number is not listed, and else what the calendar
--- answers (`dayFor`, `dateFor`, `lengthFor` of crate counting). So date to day tries 1, 2, 3, 4, 17, 5; day to date 1, 5, 17; the length of a position 1, 2, 3.
+-- answers (`dayFor`, `dateFor`, `positionFor` of crate counting). So date to day tries 1, 2, 3, 4, 17, 5; day to date 1, 5, 17; a position of a year 1, 2, 3.
 use Prim.Native.Nat.{ℕ}
 use mathlib.Core.Option.{Option}
 use lib.IntN.{ℤ}
-use Rattle.counting.specs.Answers.{Calendar, DayAnswer, noDayAnswer, dayFor, DateAnswer, noDateAnswer, dateFor, LengthAnswer, noLengthAnswer, lengthFor}
+use Rattle.counting.specs.Answers.{Calendar, DayAnswer, noDayAnswer, dayFor, DateAnswer, noDateAnswer, dateFor}
+use Rattle.counting.specs.Positions.{PositionAnswer, noPositionAnswer, positionFor}
 use Rattle.calendar_rules.specs.Calendars.{calendar}
 
 -- the calendar's answer, or the refusal where there is none
@@ -17,5 +18,5 @@ dayAnswer c y m d = ofListed (calendar c) (noDayAnswer 1) (λ K. dayFor K y m d)
 unfoldable pub dateAnswer : ℕ → ℕ → DateAnswer
 dateAnswer c n = ofListed (calendar c) (noDateAnswer 1) (λ K. dateFor K n)
 
-unfoldable pub lengthAnswer : ℕ → ℤ → ℕ → LengthAnswer
-lengthAnswer c y m = ofListed (calendar c) (noLengthAnswer 1) (λ K. lengthFor K y m)
+unfoldable pub positionAnswer : ℕ → ℤ → ℕ → PositionAnswer
+positionAnswer c y m = ofListed (calendar c) (noPositionAnswer 1) (λ K. positionFor K y m)

@@ -4,26 +4,33 @@ use Prim.Native.Nat.{ℕ}
 use mathlib.Core.Path.{_≡_}
 use mathlib.Core.List.{List, [], _∷_}
 use lib.IntN.{ℤ, pos, negsuc}
-use Rattle.counting.specs.Answers.{DayAnswer, noDayAnswer, DateAnswer, noDateAnswer, LengthAnswer, noLengthAnswer}
-use Rattle.calendar_rules.specs.Answers.{dayAnswer, dateAnswer, lengthAnswer}
+use Rattle.counting.specs.Answers.{DayAnswer, noDayAnswer, DateAnswer, noDateAnswer}
+use Rattle.counting.specs.Positions.{Kind, PositionAnswer, noPositionAnswer}
+use Rattle.calendar_rules.specs.Answers.{dayAnswer, dateAnswer, positionAnswer}
 
--- a question and its answer: the day of a date (calendar, year, month, day), the date of a day, the length of a position
+-- a question and its answer: the day of a date (calendar, year, month, day), the date of a day, a position of a year
 pub data Example : Type 0 where
   date : ℕ → ℤ → ℕ → ℕ → DayAnswer → Example
   day : ℕ → ℕ → DateAnswer → Example
-  position : ℕ → ℤ → ℕ → LengthAnswer → Example
+  position : ℕ → ℤ → ℕ → PositionAnswer → Example
 
 -- it is answered so
 abbrev pub Answered : Example → Type 0
 Answered (date c y m d a) = dayAnswer c y m d ≡ a
 Answered (day c n a) = dateAnswer c n ≡ a
-Answered (position c y m a) = lengthAnswer c y m ≡ a
+Answered (position c y m a) = positionAnswer c y m ≡ a
 
 abbrev pub is : ℕ → DayAnswer
 is n = record { number = 0; day = n }
 
-abbrev has : ℕ → LengthAnswer
-has n = record { number = 0; days = n }
+abbrev pub monthOf : ℕ → PositionAnswer
+monthOf n = record { number = 0; kind = Kind.month; days = n }
+
+abbrev pub stripOf : ℕ → PositionAnswer
+stripOf n = record { number = 0; kind = Kind.strip; days = n }
+
+abbrev pub noneThen : PositionAnswer
+noneThen = record { number = 0; kind = Kind.none; days = 0 }
 
 -- where there is one, a leap day or a day of the position that is shorter
 abbrev pub rows : List Example
@@ -62,17 +69,17 @@ limits =
     ∷ day 11 38 (record { number = 0; year = negsuc 4711; month = 1; day = 1 })
     ∷ day 11 37 (noDateAnswer 5)
     -- years 1 and -4712 are the first, year 20,000 the last
-    ∷ position 1 (pos 0) 1 (noLengthAnswer 2)
-    ∷ position 1 (pos 1) 1 (has 30)
-    ∷ position 10 (negsuc 4712) 1 (noLengthAnswer 2)
-    ∷ position 10 (negsuc 4711) 1 (has 31)
-    ∷ position 1 (pos 20000) 13 (has 5)
-    ∷ position 1 (pos 20001) 13 (noLengthAnswer 2)
+    ∷ position 1 (pos 0) 1 (noPositionAnswer 2)
+    ∷ position 1 (pos 1) 1 (monthOf 30)
+    ∷ position 10 (negsuc 4712) 1 (noPositionAnswer 2)
+    ∷ position 10 (negsuc 4711) 1 (monthOf 31)
+    ∷ position 1 (pos 20000) 13 (stripOf 5)
+    ∷ position 1 (pos 20001) 13 (noPositionAnswer 2)
     -- no other number is listed
-    ∷ position 0 (pos 1) 1 (noLengthAnswer 1)
-    ∷ position 16 (pos 1) 1 (noLengthAnswer 1)
-    ∷ position 17 (pos 1) 1 (noLengthAnswer 1)
-    ∷ position 19 (pos 1) 1 (noLengthAnswer 1)
+    ∷ position 0 (pos 1) 1 (noPositionAnswer 1)
+    ∷ position 16 (pos 1) 1 (noPositionAnswer 1)
+    ∷ position 17 (pos 1) 1 (noPositionAnswer 1)
+    ∷ position 19 (pos 1) 1 (noPositionAnswer 1)
     ∷ []
 
 -- 14/4/10 is the last Republican date. Later dates are refused 17, before 5 but after 2 and 4, and later days 17, after 5
@@ -86,5 +93,37 @@ ends =
     ∷ day 7 2380687 (record { number = 0; year = pos 14; month = 4; day = 10 })
     ∷ day 7 2380688 (noDateAnswer 17)
     ∷ day 7 5373485 (noDateAnswer 5)
-    ∷ position 7 (pos 20000) 13 (has 5)
+    ∷ position 7 (pos 20000) 13 (stripOf 5)
+    ∷ []
+
+-- the strips, each with its neighbours; the Persian one is not at the year's end. Hebrew position 7 is a month of a leap year and none of a common one; 14 is none
+-- of its positions
+abbrev pub positions : List Example
+positions =
+    position 1 (pos 1) 12 (monthOf 30)
+    ∷ position 1 (pos 1) 13 (stripOf 5)
+    ∷ position 1 (pos 1) 14 (noPositionAnswer 3)
+    ∷ position 2 (pos 1) 13 (stripOf 5)
+    ∷ position 3 (pos 1) 13 (stripOf 5)
+    ∷ position 4 (pos 1) 8 (monthOf 30)
+    ∷ position 4 (pos 1) 9 (stripOf 5)
+    ∷ position 4 (pos 1) 10 (monthOf 30)
+    ∷ position 4 (pos 1) 13 (monthOf 30)
+    ∷ position 5 (pos 3) 13 (stripOf 6)
+    ∷ position 6 (pos 4) 13 (stripOf 5)
+    ∷ position 7 (pos 3) 13 (stripOf 6)
+    ∷ position 11 (pos 2000) 2 (monthOf 29)
+    ∷ position 14 (pos 156) 18 (monthOf 19)
+    ∷ position 14 (pos 156) 19 (stripOf 5)
+    ∷ position 14 (pos 157) 19 (stripOf 4)
+    ∷ position 14 (pos 157) 20 (monthOf 19)
+    ∷ position 15 (pos 1) 12 (monthOf 30)
+    ∷ position 15 (pos 1) 13 (noPositionAnswer 3)
+    ∷ position 18 (pos 1) 0 (noPositionAnswer 3)
+    ∷ position 18 (pos 1) 6 (monthOf 29)
+    ∷ position 18 (pos 1) 7 noneThen
+    ∷ position 18 (pos 1) 8 (monthOf 30)
+    ∷ position 18 (pos 3) 7 (monthOf 29)
+    ∷ position 18 (pos 3) 14 (noPositionAnswer 3)
+    ∷ date 18 (pos 1) 7 1 (noDayAnswer 3)
     ∷ []

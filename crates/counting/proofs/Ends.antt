@@ -9,20 +9,14 @@ use lib.Dec.{eqb, ltb}
 use lib.IntN.{ℤ}
 use borrow.Author.Tests.{eqb-false, ltb-false, lt-ltb, le-ltb, ne-eqb}
 use Rattle.counting.specs.Answers.{Calendar, DayAnswer, DateAnswer, lastDay, yearOut, lengthIn, noMonth, noDay, dayOut, after, ended, dayNumber}
-use Rattle.counting.specs.Answers.{noDayAnswer, noDateAnswer, dayFor, dateFor, lengthFor, IsDate}
+use Rattle.counting.specs.Answers.{noDayAnswer, noDateAnswer, dayFor, dateFor, IsDate}
 use Rattle.counting.specs.Order.{Earlier}
 use Rattle.basics.proofs.Cases.{neither}
-use Rattle.counting.proofs.Given.{is-after, passed, length-passed}
+use Rattle.counting.proofs.Given.{is-after, passed, chosen}
 use Rattle.counting.proofs.Rounds.{Stands, stands, stand, accepted, ordered}
 
 is-ended : {o : Option ℕ} {e n : ℕ} → o ≡ Option.some e → e < n → after o n ≡ true
 is-ended {o} {e} {n} f h = ap (λ (x : Option ℕ). after x n) f ∙ lt-ltb e n h
-
--- where a choice has the refusal's number and the rest has another, the refusal was chosen
-chosen : {R : Type 0} (number : R → ℕ) (t : Bool) (refusal rest : R) → (number rest ≡ number refusal → ⊥) → number (cond t refusal rest) ≡ number refusal
-    → t ≡ true
-chosen number true refusal rest n e = refl
-chosen number false refusal rest n e = absurd (n e)
 
 -- 5 or 0 is not 17
 not-17 : (t : Bool) (n : ℕ) → ¬ (cond t (noDayAnswer 5) (record { number = 0; day = n }) .number ≡ 17)
@@ -30,16 +24,8 @@ not-17 true n e = omega arith
 not-17 false n e = omega arith
 
 module _ (K : Calendar) (y : ℤ) (m d : ℕ) where
-  is-date : yearOut K y ≡ false → noMonth K y m ≡ false → noDay K y m d ≡ false → IsDate K y m d
-  unfolding lengthFor
-  is-date q r s =
-      let D = neither (eqb d 0) (ltb (lengthIn K y m) d) s in
-      record { position = rw (q, r) refl; from-1 = omega (arith, eqb-false d 0 (D .0)); to-length = rw (q, r) (ltb-false (lengthIn K y m) d (D .1)) }
-
   pub date-stands : IsDate K y m d → Stands K y m d (dayNumber K y m d)
-  date-stands x =
-      let p = length-passed K y m (x .position) in
-      stands K y m d (p .0) (p .1) (rw (ne-eqb d 0 (omega (arith, x .from-1)), le-ltb (lengthIn K y m) d (omega (arith, x .to-length, p .2))) refl)
+  date-stands x = stands K y m d (x .year-in) (x .month-in) (x .day-in)
 
   pub ended-date : (dayFor K y m d .number ≡ 17) ↔ ((e : ℕ) × (K .end ≡ Option.some e) × IsDate K y m d × (e < dayNumber K y m d))
   unfolding dayFor
@@ -53,7 +39,7 @@ module _ (K : Calendar) (y : ℤ) (m d : ℕ) where
           let r = through (noMonth K y m) (noDayAnswer 3) _ (omega arith) (q .1) in
           let s = through (noDay K y m d) (noDayAnswer 4) _ (omega arith) (r .1) in
           let t = is-after (K .end) n (chosen (λ (a : DayAnswer). a .number) (ended K n) (noDayAnswer 17) _ (not-17 (dayOut K n) n) (s .1)) in
-          (t .0, t .1, is-date (q .0) (r .0) (s .0), t .2)
+          (t .0, t .1, record { year-in = q .0; month-in = r .0; day-in = s .0 }, t .2)
 
       from : (e : ℕ) × (K .end ≡ Option.some e) × IsDate K y m d × (e < dayNumber K y m d) → dayFor K y m d .number ≡ 17
       from x = ap (λ (a : DayAnswer). a .number) (stand K y m d (dayNumber K y m d) (date-stands (x .2))) ∙ rw (is-ended (x .1) (x .3)) refl

@@ -3,7 +3,7 @@ use mathlib.Core.Path.{_≡_, refl, sym, subst}
 use mathlib.Core.Bool.{Bool, true, false, cond, _||_, true≢false}
 use mathlib.Core.List.{List, _∷_}
 use mathlib.Core.Option.{Option}
-use mathlib.Core.Logic.{_⊎_, inl, inr, ⊎-elim, _↔_}
+use mathlib.Core.Logic.{_↔_}
 use Prim.Native.Nat.{ℕ, _≤_, _<_}
 use native.Mathlib.Omega.{arith}
 use lib.Dec.{eqb, ltb}
@@ -11,11 +11,13 @@ use lib.IntN.{ℤ}
 use lib.ListN.{length}
 use lib.Signed.{ltZ}
 use borrow.Author.Tests.{eqb-true, eqb-false, ltb-true, ltb-false}
-use Rattle.counting.specs.Answers.{Calendar, DayAnswer, DateAnswer, LengthAnswer, lastDay, lastYear, yearOut, lengthIn, monthZero, abovePositions}
-use Rattle.counting.specs.Answers.{noDaysThatYear, noMonth, noDay, dayOut, after, ended, dayNumber, noDayAnswer, noDateAnswer, noLengthAnswer}
-use Rattle.counting.specs.Answers.{dayFor, dateFor, lengthFor}
-use Rattle.counting.specs.Given.{Given, dateOrder, dayOrder, positionOrder, OfDate, OfDay, OfPosition}
-use Rattle.counting.specs.Given.OfDate.{below-first, above-20000, month-0, above-positions, no-days, day-0, beyond-month, its-day}
+use Rattle.counting.specs.Answers.{Calendar, DayAnswer, DateAnswer, lastDay, lastYear, yearOut, lengthIn, monthZero, abovePositions}
+use Rattle.counting.specs.Answers.{noDaysThatYear, noMonth, noDay, dayOut, after, ended, dayNumber, noDayAnswer, noDateAnswer, dayFor, dateFor}
+use Rattle.counting.specs.Positions.{PositionAnswer, noPosition, noPositionAnswer, positionFor}
+use Rattle.counting.specs.Given.{Given, dateOrder, dayOrder, positionOrder, OfYear, OfDate, OfDay, OfPosition}
+use Rattle.counting.specs.Given.OfYear.{below-first, above-20000}
+use Rattle.counting.specs.Given.OfDate.{its-year, month-0, above-positions, no-days, day-0, beyond-month, its-day}
+use Rattle.counting.specs.Given.OfPosition.{its-year as of-its-year, position-0, above-positions as above-all}
 use Rattle.counting.specs.Given.OfDay.{above-5373484, before-first, after-end}
 use Rattle.counting.specs.Given.Given.{done, first, later}
 use Rattle.basics.specs.Every.{All}
@@ -60,6 +62,12 @@ pub passed : {R : Type 0} (number : R → ℕ) {k : ℕ} (t : Bool) (refusal res
     → (t ≡ false) × (number rest ≡ k)
 passed number true refusal rest n e = absurd (n e)
 passed number false refusal rest n e = (refl, e)
+
+-- where a choice has the refusal's number and the rest has another, the refusal was chosen
+pub chosen : {R : Type 0} (number : R → ℕ) (t : Bool) (refusal rest : R) → (number rest ≡ number refusal → ⊥) → number (cond t refusal rest) ≡ number refusal
+    → t ≡ true
+chosen number true refusal rest n e = refl
+chosen number false refusal rest n e = absurd (n e)
 
 -- ---- day to date
 
@@ -110,53 +118,87 @@ module _ (K : Calendar) (n : ℕ) where
       try _ (dayOut K n) (noDateAnswer 5) _ is-5 not-5
       (try _ (ended K n) (noDateAnswer 17) _ is-17 not-17 done)
 
--- ---- date to day, and the length of a position
+-- ---- a year, a position of it
+
+module _ (K : Calendar) (y : ℤ) where
+  only-2 : {k : ℕ} → OfYear K y k → k ≡ 2
+  only-2 (below-first f) = refl
+  only-2 (above-20000 f) = refl
+
+  is-2 : yearOut K y ≡ true → OfYear K y 2
+  is-2 e = either (ltZ y (K .firstYear)) (ltZ lastYear y) e below-first above-20000
+
+  not-2 : yearOut K y ≡ false → ¬ OfYear K y 2
+  not-2 e (below-first f) = clash f (neither (ltZ y (K .firstYear)) (ltZ lastYear y) e .0)
+  not-2 e (above-20000 f) = clash f (neither (ltZ y (K .firstYear)) (ltZ lastYear y) e .1)
+
+module _ (K : Calendar) (y : ℤ) (m : ℕ) where
+  from-2 : {k : ℕ} → OfPosition K y m k → 2 ≤ k
+  from-2 (of-its-year a) = omega (arith, only-2 K y a)
+  from-2 (position-0 f) = omega arith
+  from-2 (above-all f) = omega arith
+
+  -- so 1 does not apply
+  pub position-not-1 : ¬ OfPosition K y m 1
+  position-not-1 a = omega (arith, from-2 a)
+
+  position-not-2 : yearOut K y ≡ false → ¬ OfPosition K y m 2
+  position-not-2 e (of-its-year a) = not-2 K y e a
+
+  position-is-3 : noPosition K y m ≡ true → OfPosition K y m 3
+  position-is-3 e =
+      either (monthZero m) (abovePositions K y m) e (λ f. position-0 (eqb-true m 0 f)) (λ f. above-all (ltb-true (length (K .lengths y)) m f))
+
+  position-not-3 : noPosition K y m ≡ false → ¬ OfPosition K y m 3
+  position-not-3 e (of-its-year a) = omega (arith, only-2 K y a)
+  position-not-3 e (position-0 f) = eqb-false m 0 (neither (monthZero m) (abovePositions K y m) e .0) f
+  position-not-3 e (above-all f) = omega (arith, ltb-false (length (K .lengths y)) m (neither (monthZero m) (abovePositions K y m) e .1))
+
+  pub position-given : Given (OfPosition K y m) positionOrder (positionFor K y m .number)
+  unfolding positionFor
+  position-given =
+      let try = tried (λ (x : PositionAnswer). x .number) (OfPosition K y m) in
+      try _ (yearOut K y) (noPositionAnswer 2) _ (λ e. of-its-year (is-2 K y e)) position-not-2
+      (try _ (noPosition K y m) (noPositionAnswer 3) _ position-is-3 position-not-3 done)
+
+-- ---- date to day
 
 module _ (K : Calendar) (y : ℤ) (m d : ℕ) where
   -- each test holds exactly where its number applies
-  is-2 : yearOut K y ≡ true → OfDate K y m d 2
-  is-2 e = either (ltZ y (K .firstYear)) (ltZ lastYear y) e below-first above-20000
-
-  not-2 : yearOut K y ≡ false → ¬ OfDate K y m d 2
-  not-2 e (below-first f) = clash f (neither (ltZ y (K .firstYear)) (ltZ lastYear y) e .0)
-  not-2 e (above-20000 f) = clash f (neither (ltZ y (K .firstYear)) (ltZ lastYear y) e .1)
-  not-2 e (its-day a) = omega (arith, from-5 K (dayNumber K y m d) a)
-
-  no-place : Bool
-  no-place = monthZero m || abovePositions K y m
+  date-not-2 : yearOut K y ≡ false → ¬ OfDate K y m d 2
+  date-not-2 e (its-year a) = not-2 K y e a
+  date-not-2 e (its-day a) = omega (arith, from-5 K (dayNumber K y m d) a)
 
   is-3 : noMonth K y m ≡ true → OfDate K y m d 3
-  unfolding no-place
-  is-3 e =
-      either no-place (noDaysThatYear K y m) e
-      (λ f. either (monthZero m) (abovePositions K y m) f (λ g. month-0 (eqb-true m 0 g)) (λ g. above-positions (ltb-true (length (K .lengths y)) m g)))
-      (λ f. no-days (eqb-true (lengthIn K y m) 0 f))
+  is-3 e = either (noPosition K y m) (noDaysThatYear K y m) e (λ f. at (position-is-3 K y m f)) (λ f. no-days (eqb-true (lengthIn K y m) 0 f))
+    where
+      at : OfPosition K y m 3 → OfDate K y m d 3
+      at (of-its-year a) = its-year a
+      at (position-0 f) = month-0 f
+      at (above-all f) = above-positions f
 
   not-3 : noMonth K y m ≡ false → ¬ OfDate K y m d 3
-  unfolding no-place
-  not-3 e a =
-      let M = neither no-place (noDaysThatYear K y m) e in
-      let N = neither (monthZero m) (abovePositions K y m) (M .0) in
-      go (eqb-false m 0 (N .0)) (ltb-false (length (K .lengths y)) m (N .1)) (eqb-false (lengthIn K y m) 0 (M .1)) a
+  not-3 e a = let M = neither (noPosition K y m) (noDaysThatYear K y m) e in go (position-not-3 K y m (M .0)) (eqb-false (lengthIn K y m) 0 (M .1)) a
     where
-      go : ¬ (m ≡ 0) → m ≤ length (K .lengths y) → ¬ (lengthIn K y m ≡ 0) → ¬ OfDate K y m d 3
-      go u v w (month-0 f) = u f
-      go u v w (above-positions f) = omega arith
-      go u v w (no-days f) = w f
-      go u v w (its-day a) = omega (arith, from-5 K (dayNumber K y m d) a)
+      go : ¬ OfPosition K y m 3 → ¬ (lengthIn K y m ≡ 0) → ¬ OfDate K y m d 3
+      go u w (its-year a) = u (of-its-year a)
+      go u w (month-0 f) = u (position-0 f)
+      go u w (above-positions f) = u (above-all f)
+      go u w (no-days f) = w f
+      go u w (its-day a) = omega (arith, from-5 K (dayNumber K y m d) a)
 
   is-4 : noDay K y m d ≡ true → OfDate K y m d 4
   is-4 e = either (eqb d 0) (ltb (lengthIn K y m) d) e (λ f. day-0 (eqb-true d 0 f)) (λ f. beyond-month (ltb-true (lengthIn K y m) d f))
 
   not-4 : noDay K y m d ≡ false → ¬ OfDate K y m d 4
+  not-4 e (its-year a) = omega (arith, only-2 K y a)
   not-4 e (day-0 f) = eqb-false d 0 (neither (eqb d 0) (ltb (lengthIn K y m) d) e .0) f
   not-4 e (beyond-month f) = omega (arith, ltb-false (lengthIn K y m) d (neither (eqb d 0) (ltb (lengthIn K y m) d) e .1))
   not-4 e (its-day a) = omega (arith, from-5 K (dayNumber K y m d) a)
 
   -- 5 and 17 only as to its day
   of-day : {k : ℕ} → 5 ≤ k → OfDate K y m d k → OfDay K (dayNumber K y m d) k
-  of-day h (below-first f) = absurd (omega arith)
-  of-day h (above-20000 f) = absurd (omega arith)
+  of-day h (its-year a) = absurd (omega (arith, only-2 K y a))
   of-day h (month-0 f) = absurd (omega arith)
   of-day h (above-positions f) = absurd (omega arith)
   of-day h (no-days f) = absurd (omega arith)
@@ -166,6 +208,7 @@ module _ (K : Calendar) (y : ℤ) (m d : ℕ) where
 
   -- 1 does not apply
   pub not-1 : ¬ OfDate K y m d 1
+  not-1 (its-year a) = omega (arith, only-2 K y a)
   not-1 (its-day a) = omega (arith, from-5 K (dayNumber K y m d) a)
 
   pub day-given : Given (OfDate K y m d) dateOrder (dayFor K y m d .number)
@@ -173,42 +216,8 @@ module _ (K : Calendar) (y : ℤ) (m d : ℕ) where
   day-given =
       let n = dayNumber K y m d in
       let try = tried (λ (a : DayAnswer). a .number) (OfDate K y m d) in
-      try _ (yearOut K y) (noDayAnswer 2) _ is-2 not-2
+      try _ (yearOut K y) (noDayAnswer 2) _ (λ e. its-year (is-2 K y e)) date-not-2
       (try _ (noMonth K y m) (noDayAnswer 3) _ is-3 not-3
       (try _ (noDay K y m d) (noDayAnswer 4) _ is-4 not-4
       (try _ (ended K n) (noDayAnswer 17) _ (λ e. its-day (is-17 K n e)) (λ e a. not-17 K n e (of-day (omega arith) a))
       (try _ (dayOut K n) (noDayAnswer 5) _ (λ e. its-day (is-5 K n e)) (λ e a. not-5 K n e (of-day (omega arith) a)) done))))
-
-module _ (K : Calendar) (y : ℤ) (m : ℕ) where
-  pub length-given : Given (OfPosition K y m) positionOrder (lengthFor K y m .number)
-  unfolding lengthFor
-  length-given =
-      let try = tried (λ (a : LengthAnswer). a .number) (OfPosition K y m) in
-      try _ (yearOut K y) (noLengthAnswer 2) _ (λ e d. is-2 K y m d e) (λ e a. not-2 K y m 0 e (a 0))
-      (try _ (noMonth K y m) (noLengthAnswer 3) _ (λ e d. is-3 K y m d e) (λ e a. not-3 K y m 0 e (a 0)) done)
-
-  pub length-passed : lengthFor K y m .number ≡ 0 → (yearOut K y ≡ false) × (noMonth K y m ≡ false) × (lengthFor K y m .days ≡ lengthIn K y m)
-  unfolding lengthFor
-  length-passed e =
-      let through = passed (λ (a : LengthAnswer). a .number) in
-      let p = through (yearOut K y) (noLengthAnswer 2) _ (omega arith) e in
-      let q = through (noMonth K y m) (noLengthAnswer 3) _ (omega arith) (p .1) in
-      (p .0, q .0, rw (p .0, q .0) (omega arith))
-
-  -- a day of a position that has a length is refused 4 exactly outside 1 to that length
-  pub day-of-length : lengthFor K y m .number ≡ 0 → (d : ℕ) → (dayFor K y m d .number ≡ 4) ↔ ((d ≡ 0) ⊎ (lengthFor K y m .days < d))
-  day-of-length e d =
-      let p = length-passed e in
-      let exact = exactly (day-given K y m d) 4 in (
-        (λ f. outside (p .2) (exact .0 f)),
-        λ x. exact .1 (later (not-2 K y m d (p .0)) (later (not-3 K y m d (p .1)) (first (⊎-elim day-0 (λ h. beyond-month (omega (arith, p .2))) x)))),
-      )
-    where
-      beyond : lengthFor K y m .days ≡ lengthIn K y m → OfDate K y m d 4 → (d ≡ 0) ⊎ (lengthFor K y m .days < d)
-      beyond e (day-0 f) = inl f
-      beyond e (beyond-month f) = inr (omega arith)
-      beyond e (its-day a) = absurd (omega (arith, from-5 K (dayNumber K y m d) a))
-
-      outside : lengthFor K y m .days ≡ lengthIn K y m → Given (OfDate K y m d) dateOrder 4 → (d ≡ 0) ⊎ (lengthFor K y m .days < d)
-      outside e (later a (later b (first c))) = beyond e c
-      outside e (later a (later b (later c g))) = absurd (one-of (λ k. ¬ (k ≡ 4)) (λ z. omega arith) ((λ z. omega arith), ((λ z. omega arith), tt)) g refl)

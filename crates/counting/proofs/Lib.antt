@@ -5,4 +5,5 @@ pub mod Starts
 pub mod Given
 pub mod Rounds
 pub mod Ends
+pub mod Positions
 pub mod Claims

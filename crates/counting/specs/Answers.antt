@@ -1,5 +1,5 @@
--- A calendar, and what it answers, by the table of docs/RULES.md, "Answer numbers": date to day tries 2, 3, 4, 17, 5; day to date 5, 17; the length of a
--- position 2, 3.
+-- A calendar, and what it answers, by the table of docs/RULES.md, "Answer numbers": date to day tries 2, 3, 4, 17, 5; day to date 5, 17. (What it answers to a
+-- position of a year: specs/Positions.antt.)
 -- (1, a number that is no calendar's, is tried where calendars are looked up by number.) A refusal has its number, and 0 in all other fields.
 use Prim.Native.Nat.{ℕ, _+_, _-_, _≤_, min}
 use mathlib.Core.Path.{_≡_}
@@ -13,11 +13,13 @@ use lib.Signed.{ltZ}
 use Rattle.counting.specs.Calendar.{total, len, dayOf, dateAt, Date}
 use Rattle.counting.specs.Years.{yearAt, yearsFrom}
 
--- a calendar: its first year, the day of 1/1 of that year, the lengths of the positions of each year, and its own last day, if it ended
+-- a calendar: its first year, the day of 1/1 of that year, the lengths of the positions of each year, the position that is a strip of loose days and no
+-- month, if there is one, and its own last day, if it ended
 pub record Calendar : Type 0 where
   pub firstYear : ℤ
   pub firstDay : ℕ
   pub lengths : ℤ → List ℕ
+  pub strip : Option ℕ
   pub end : Option ℕ
 
 -- the lengths of its years, counted from its first
@@ -33,10 +35,6 @@ pub record DateAnswer : Type 0 where
   pub year : ℤ
   pub month : ℕ
   pub day : ℕ
-
-pub record LengthAnswer : Type 0 where
-  pub number : ℕ
-  pub days : ℕ
 
 abbrev pub lastDay : ℕ
 lastDay = 5373484
@@ -121,22 +119,11 @@ dateFor K n =
     (cond (ended K n) (noDateAnswer 17)
     (dated K (dateOn K n)))
 
--- ---- the length of a position in a year
-
-abbrev pub noLengthAnswer : ℕ → LengthAnswer
-noLengthAnswer k = record { number = k; days = 0 }
-
-unfoldable pub lengthFor : Calendar → ℤ → ℕ → LengthAnswer
-lengthFor K y m =
-    cond (yearOut K y) (noLengthAnswer 2)
-    (cond (noMonth K y m) (noLengthAnswer 3)
-    (record { number = 0; days = lengthIn K y m }))
-
--- y/m/d is a date of the calendar: the position has a length, and day d is one of its days
+-- y/m/d is a date of the calendar: 2, 3 and 4 do not apply
 pub record IsDate (K : Calendar) (y : ℤ) (m d : ℕ) : Type 0 where
-  pub position : lengthFor K y m .number ≡ 0
-  pub from-1 : 1 ≤ d
-  pub to-length : d ≤ lengthFor K y m .days
+  pub year-in : yearOut K y ≡ false
+  pub month-in : noMonth K y m ≡ false
+  pub day-in : noDay K y m d ≡ false
 
 -- ---- the last day that has a date: 5,373,484, or the calendar's end
 

@@ -34,11 +34,16 @@ pub data OfDay (K : Calendar) (n : ℕ) : ℕ → Type 0 where
   -- 17: day after the calendar's end
   after-end : {e : ℕ} → K .end ≡ Option.some e → e < n → OfDay K n 17
 
+-- to year y
+pub data OfYear (K : Calendar) (y : ℤ) : ℕ → Type 0 where
+  -- 2: year below the calendar's first or above 20,000
+  below-first : ltZ y (K .firstYear) ≡ true → OfYear K y 2
+  above-20000 : ltZ (pos 20000) y ≡ true → OfYear K y 2
+
 -- to the date y/m/d
 pub data OfDate (K : Calendar) (y : ℤ) (m d : ℕ) : ℕ → Type 0 where
-  -- 2: year below the calendar's first or above 20,000
-  below-first : ltZ y (K .firstYear) ≡ true → OfDate K y m d 2
-  above-20000 : ltZ (pos 20000) y ≡ true → OfDate K y m d 2
+  -- 2, as to its year
+  its-year : {k : ℕ} → OfYear K y k → OfDate K y m d k
   -- 3: month 0, above the positions, or of no days that year
   month-0 : m ≡ 0 → OfDate K y m d 3
   above-positions : length (K .lengths y) < m → OfDate K y m d 3
@@ -49,6 +54,10 @@ pub data OfDate (K : Calendar) (y : ℤ) (m d : ℕ) : ℕ → Type 0 where
   -- 5 and 17, as to its day
   its-day : {k : ℕ} → OfDay K (dayNumber K y m d) k → OfDate K y m d k
 
--- to position m of year y: as to every date there
-abbrev pub OfPosition : Calendar → ℤ → ℕ → ℕ → Type 0
-OfPosition K y m k = (d : ℕ) → OfDate K y m d k
+-- to position m of year y
+pub data OfPosition (K : Calendar) (y : ℤ) (m : ℕ) : ℕ → Type 0 where
+  -- 2, as to its year
+  its-year : {k : ℕ} → OfYear K y k → OfPosition K y m k
+  -- 3: position 0 or above the positions
+  position-0 : m ≡ 0 → OfPosition K y m 3
+  above-positions : length (K .lengths y) < m → OfPosition K y m 3
