@@ -1,4 +1,5 @@
 -- The answers in steps are the answers: a year that is refused; a position that the year does not have; and one that it has, with the days in it.
+use mathlib.Core.List.{List}
 use mathlib.Core.Option.{Option}
 use mathlib.Core.Path.{_≡_, refl, sym, ap, _∙_}
 use mathlib.Core.Bool.{Bool, true, false, cond, _&&_, _||_, true≢false}
@@ -7,25 +8,28 @@ use native.Mathlib.Decide.{decLt}
 use native.Mathlib.Omega.{arith}
 use lib.Dec.{eqb, ltb}
 use lib.IntN.{ℤ, negsuc}
-use lib.ListN.{take}
+use lib.ListN.{getD, take}
 use lib.Signed.{ltZ}
 use borrow.Author.Tests.{le-ltb, lt-ltb, ltb-true, ltb-false, eqb-true, eqb-false, eq-eqb, ne-eqb}
 use Rattle.counting.specs.Calendar.{total, start, len, dayOf}
 use Rattle.counting.specs.Years.{yearsFrom}
-use Rattle.counting.specs.Answers.{Calendar, years, DayAnswer, DateAnswer, LengthAnswer, lastDay, lastYear, yearOut, noMonth, noDay, dayOut, dayNumber}
-use Rattle.counting.specs.Answers.{noDayAnswer, noDateAnswer, noLengthAnswer, dayFor, dateFor, lengthFor, dated, dateOn, after, ended, lastOf}
+use Rattle.counting.specs.Answers.{Calendar, years, DayAnswer, DateAnswer, lastDay, lastYear, yearOut, noMonth, noDay, dayOut, dayNumber}
+use Rattle.counting.specs.Answers.{lengthIn, monthZero, abovePositions, noDaysThatYear, noDayAnswer, noDateAnswer, dayFor, dateFor, dated, dateOn, after, ended, lastOf}
+use Rattle.counting.specs.Positions.{Kind, PositionAnswer, noPosition, isStrip, kindIn, noPositionAnswer, positionFor}
 use Rattle.basics.proofs.Cases.{neither, cond-elim}
 use Rattle.counting.proofs.Counting.{counted}
+use Rattle.counting.proofs.Positions.{days-in}
 use Rattle.counting.proofs.Rounds.{lengths-at, no-month, last-in, last-small, past-end, answered}
 use Rattle.counting.proofs.Signs.{years-small}
 use Rattle.counting.proofs.Totals.{getD-le-total}
 use Rattle.calendar_rules.specs.Calendars.{lookup, calendar, Listed}
-use Rattle.calendar_rules.specs.Answers.{ofListed, dayAnswer, dateAnswer, lengthAnswer}
+use Rattle.calendar_rules.specs.Answers.{ofListed, dayAnswer, dateAnswer, positionAnswer}
 use Rattle.calendar_rules.proofs.Listed.{listed-sound, endIf, end-is}
+use Rattle.calendar_rules.proofs.Positions.{absent}
 use Rattle.calendar_rules.proofs.Bounds.{start-within, position-within, year-days, has-days}
-use Rattle.calendar_rules.proofs.Claims.{day-asked, date-asked, length-asked}
+use Rattle.calendar_rules.proofs.Claims.{day-asked, date-asked, position-asked}
 use Rattle.months.specs.Parts.{lengthAt, MonthOf, PlaceOf, PlaceTo, packedIn, PackedAt}
-use Rattle.asking.specs.Steps.{OfListed, packedDay, noneNumber, packedNone, noneLength, Answered, Sought, onDay, inRange, tryEnd, endTried, dayIn, whyNot, Found}
+use Rattle.asking.specs.Steps.{OfListed, packedDay, noneNumber, packedNone, noneThere, kindAt, stripOr0, Answered, Sought, onDay, inRange, tryEnd, endTried, dayIn, whyNot, Found}
 use Rattle.asking.proofs.Arms.{before-first, never}
 
 -- ---- in a calendar, a year that is not refused
@@ -55,10 +59,6 @@ module _ (K : Calendar) (y : ℤ) (m : ℕ) (o : yearOut K y ≡ false) where
   day-for : (d : ℕ) → dayFor K y m d ≡ cond (eqb m 0 || eqb (len (years K i) m) 0) (noDayAnswer 3) (dayIn K b (len (years K i) m) d)
   unfolding dayFor
   day-for d = rw (o, no-month K y m, lengths-are, day-out d, number-is d) refl
-
-  length-for : lengthFor K y m ≡ cond (eqb m 0 || eqb (len (years K i) m) 0) (noLengthAnswer 3) (record { number = 0; days = len (years K i) m })
-  unfolding lengthFor
-  length-for = rw (o, no-month K y m, lengths-are) refl
 
 -- ---- a day as one number
 
@@ -101,19 +101,6 @@ module _ (c : ℕ) (y : ℤ) (m : ℕ) where
 
       go : (o : Option Calendar) → calendar c ≡ o
           → ofListed o 1 (λ K. cond (yearOut K y) 2 3) * 2 ^ 32 ≡ packedDay (ofListed o (noDayAnswer 1) (λ K. dayFor K y m d))
-      go Option.none e = refl
-      go (Option.some K) e = in-year K (record { row = e }) (yearOut K y) refl
-
-  pub length-none : Nowhere → noneLength c y ≡ lengthAnswer c y m
-  unfolding noneNumber lengthAnswer lengthFor
-  length-none h = go (calendar c) refl
-    where
-      in-year : (K : Calendar) → Listed c K → (t : Bool) → yearOut K y ≡ t → noLengthAnswer (cond t 2 3) ≡ lengthFor K y m
-      in-year K l true e = rw e refl
-      in-year K l false e = rw (e, h K l e) refl
-
-      go : (o : Option Calendar) → calendar c ≡ o
-          → noLengthAnswer (ofListed o 1 (λ K. cond (yearOut K y) 2 3)) ≡ ofListed o (noLengthAnswer 1) (λ K. lengthFor K y m)
       go Option.none e = refl
       go (Option.some K) e = in-year K (record { row = e }) (yearOut K y) refl
 
@@ -173,9 +160,6 @@ module _ {c : ℕ} {y : ℤ} (x : YearIn c y) (m : ℕ) where
 
   pub day-there : (m ≡ 0 → ⊥) → (daysOf ≡ 0 → ⊥) → (d : ℕ) → dayIn (x .calendar) beginOf daysOf d ≡ dayAnswer c y m d
   day-there n z d = rw (day-asked (x .listed) y m d, day-for (x .calendar) y m (x .inside) d, ne-eqb m 0 n, ne-eqb daysOf 0 z) refl
-
-  pub length-there : (m ≡ 0 → ⊥) → (daysOf ≡ 0 → ⊥) → _≡_ {A = LengthAnswer} (record { number = 0; days = daysOf }) (lengthAnswer c y m)
-  length-there n z = rw (length-asked (x .listed) y m, length-for (x .calendar) y m (x .inside), ne-eqb m 0 n, ne-eqb daysOf 0 z) refl
 
   pub there-small : (beginOf ≤ 20000000) × (daysOf ≤ 385)
   there-small =
@@ -302,49 +286,110 @@ module _ {c : ℕ} {y : ℤ} (m : ℕ) {start days : ℕ} (s : Sought c y (λ K 
       given : (K : Calendar) → (eqb d 0 || ltb days d) ≡ false → packedDay (onDay K (start + (d - 1))) ≡ packedDay (dayIn K start days d)
       given K t = rw t refl
 
-module _ {c : ℕ} {y : ℤ} (m n : ℕ) (s : Sought c y (λ K i. n ≡ lengthAt K i (m - 1)) n) where
-  pub length-not-found : n ≡ 0 → noneLength c y ≡ lengthAnswer c y m
-  length-not-found z = length-none c y m (nowhere-zero c y m (λ K l f. sym (s .there K l f) ∙ z))
+-- ---- a position: its days first
 
-  pub length-found : (m ≡ 0 → ⊥) → (n ≡ 0 → ⊥) → _≡_ {A = LengthAnswer} (record { number = 0; days = n }) (lengthAnswer c y m)
-  length-found h z =
-      let x = year-found s z in
-      ap (λ (k : ℕ). record { number = 0; days = k }) (x .1) ∙ length-there (x .0) m h (λ e. z (x .1 ∙ e))
+-- a position of a year without days
+without-days : (K : Calendar) (y : ℤ) (m : ℕ) → yearOut K y ≡ false → positionFor K y m .days ≡ 0 → noMonth K y m ≡ true
+unfolding positionFor
+without-days K y m o z = go (noPosition K y m) (rw o at z)
+  where
+    go : (t : Bool) → cond t (noPositionAnswer 3) (record { number = 0; kind = kindIn K y m; days = lengthIn K y m }) .days ≡ 0 → (t || noDaysThatYear K y m) ≡ true
+    go true z = refl
+    go false z = eq-eqb (lengthIn K y m) 0 z
 
--- the days alone
+-- whether a position from 1 on is the strip
+is-strip : (o : Option ℕ) (m : ℕ) → ¬ (m ≡ 0) → eqb m (stripOr0 o) ≡ isStrip o m
+is-strip Option.none m z = ne-eqb m 0 z
+is-strip (Option.some p) m z = refl
+
 module _ (c : ℕ) (y : ℤ) (m : ℕ) where
-  pub no-days : Nowhere c y m → 0 ≡ lengthAnswer c y m .days
-  no-days h = ap (λ (a : LengthAnswer). a .days) (length-none c y m h)
+  -- where no calendar that is listed has it there are none
+  pub no-days : Nowhere c y m → 0 ≡ positionAnswer c y m .days
+  unfolding positionAnswer positionFor
+  no-days h = go (calendar c) refl
+    where
+      in-calendar : (K : Calendar) (t : Bool) → (t ≡ false → noMonth K y m ≡ true) → (u : Bool) → noPosition K y m ≡ u
+          → 0 ≡ cond t (noPositionAnswer 2) (cond u (noPositionAnswer 3) (record { number = 0; kind = kindIn K y m; days = lengthIn K y m })) .days
+      in-calendar K true h u e = refl
+      in-calendar K false h true e = refl
+      in-calendar K false h false e = sym (eqb-true (lengthIn K y m) 0 (sym (ap (λ (t : Bool). t || noDaysThatYear K y m) e) ∙ h refl))
 
-  pub days-found : {n : ℕ} → (m ≡ 0 → ⊥) → Sought c y (λ K i. n ≡ lengthAt K i (m - 1)) n → n ≡ lengthAnswer c y m .days
+      go : (o : Option Calendar) → calendar c ≡ o → 0 ≡ ofListed o (noPositionAnswer 1) (λ K. positionFor K y m) .days
+      go Option.none e = refl
+      go (Option.some K) e = in-calendar K (yearOut K y) (h K (record { row = e })) (noPosition K y m) refl
+
+  pub days-found : {n : ℕ} → (m ≡ 0 → ⊥) → Sought c y (λ K i. n ≡ lengthAt K i (m - 1)) n → n ≡ positionAnswer c y m .days
   days-found {n} h s = go (decLt 0 n)
     where
-      go : Dec (0 < n) → n ≡ lengthAnswer c y m .days
-      go (yes l) = ap (λ (a : LengthAnswer). a .days) (length-found m n s h (λ e. omega arith))
-      go (no l) = let e : n ≡ 0 = omega arith in e ∙ ap (λ (a : LengthAnswer). a .days) (length-not-found m n s e)
+      go : Dec (0 < n) → n ≡ positionAnswer c y m .days
+      go (yes l) =
+          let x = year-found s (λ e. omega arith) in
+          let K = x .0 .calendar in
+          x .1
+          ∙ ap (λ (ls : List ℕ). getD ls (m - 1) 0) (sym (lengths-are K y m (x .0 .inside)))
+          ∙ sym (days-in K y m (x .0 .inside) (omega arith))
+          ∙ ap (λ (a : PositionAnswer). a .days) (sym (position-asked (x .0 .listed) y m))
+      go (no l) = let e : n ≡ 0 = omega arith in e ∙ no-days (nowhere-zero c y m (λ K k f. sym (s .there K k f) ∙ e))
 
--- and back: it is refused where they are 0, and only there
-pub length-told : (c : ℕ) (y : ℤ) (m : ℕ)
-    → (lengthAnswer c y m .days ≡ 0 → noneLength c y ≡ lengthAnswer c y m) × ((lengthAnswer c y m .days ≡ 0 → ⊥) → 0 ≡ lengthAnswer c y m .number)
-unfolding noneNumber lengthAnswer lengthFor
-length-told c y m = go (calendar c)
-  where
-    Tells : ℕ → LengthAnswer → Type 0
-    Tells k x = (x .days ≡ 0 → noLengthAnswer k ≡ x) × ((x .days ≡ 0 → ⊥) → 0 ≡ x .number)
+  -- where there are none, it is none this year or refused,
+  pub days-none : positionAnswer c y m .days ≡ 0 → noneThere c m (noneNumber c y) ≡ positionAnswer c y m
+  unfolding positionAnswer noneNumber positionFor
+  days-none z = go (calendar c) refl z
+    where
+      in-year : (K : Calendar) → Listed c K → (t : Bool) → yearOut K y ≡ t → positionFor K y m .days ≡ 0 → noneThere c m (cond t 2 3) ≡ positionFor K y m
+      in-year K l true e z = rw e refl
+      in-year K l false e z = sym (absent l y e m (without-days K y m e z))
 
-    refused : (k : ℕ) → Tells k (noLengthAnswer k)
-    refused k = ((λ z. refl), λ n. absurd (n refl))
+      go : (o : Option Calendar) → calendar c ≡ o → ofListed o (noPositionAnswer 1) (λ K. positionFor K y m) .days ≡ 0
+          → noneThere c m (ofListed o 1 (λ K. cond (yearOut K y) 2 3)) ≡ ofListed o (noPositionAnswer 1) (λ K. positionFor K y m)
+      go Option.none e z = refl
+      go (Option.some K) e z = in-year K (record { row = e }) (yearOut K y) refl z
 
-    in-year : (K : Calendar) (t u : Bool) → noMonth K y m ≡ u
-        → Tells (cond t 2 3) (cond t (noLengthAnswer 2) (cond u (noLengthAnswer 3) (record { number = 0; days = len (K .lengths y) m })))
-    in-year K true u e = refused 2
-    in-year K false true e = refused 3
-    in-year K false false e =
-        ((λ z. absurd (eqb-false (len (K .lengths y) m) 0 (neither (eqb m 0) (eqb (len (K .lengths y) m) 0) (sym (no-month K y m) ∙ e) .1) z)), λ n. refl)
+  -- and where there are some, a strip or a month, as the calendar's strip says
+  days-there : (n p : ℕ) → n ≡ positionAnswer c y m .days → (n ≡ 0 → ⊥) → OfListed c (λ K. p ≡ stripOr0 (K .strip))
+      → _≡_ {A = PositionAnswer} (record { number = 0; kind = kindAt p m; days = n }) (positionAnswer c y m)
+  unfolding positionAnswer positionFor
+  days-there n p e h f = go (calendar c) refl e
+    where
+      in-calendar : (K : Calendar) → Listed c K → (t u : Bool) → noPosition K y m ≡ u → (v : Bool) → noDaysThatYear K y m ≡ v
+          → let x : PositionAnswer =
+          cond t (noPositionAnswer 2)
+          (cond u (noPositionAnswer 3)
+          (record { number = 0; kind = cond v Kind.none (cond (isStrip (K .strip) m) Kind.strip Kind.month); days = lengthIn K y m })) in
+          n ≡ x .days → _≡_ {A = PositionAnswer} (record { number = 0; kind = kindAt p m; days = n }) x
+      in-calendar K l true u q v d e = absurd (h e)
+      in-calendar K l false true q v d e = absurd (h e)
+      in-calendar K l false false q true d e = absurd (h (e ∙ eqb-true (lengthIn K y m) 0 d))
+      in-calendar K l false false q false d e =
+          let z = eqb-false m 0 (neither (monthZero m) (abovePositions K y m) q .0) in
+          let s : eqb m p ≡ isStrip (K .strip) m = ap (eqb m) (f K l) ∙ is-strip (K .strip) m z in
+          λ j. record { number = 0; kind = cond (s j) Kind.strip Kind.month; days = e j }
 
-    go : (o : Option Calendar) → Tells (ofListed o 1 (λ K. cond (yearOut K y) 2 3)) (ofListed o (noLengthAnswer 1) (λ K. lengthFor K y m))
-    go Option.none = refused 1
-    go (Option.some K) = in-year K (yearOut K y) (noMonth K y m) refl
+      go : (o : Option Calendar) → calendar c ≡ o → n ≡ ofListed o (noPositionAnswer 1) (λ K. positionFor K y m) .days
+          → _≡_ {A = PositionAnswer} (record { number = 0; kind = kindAt p m; days = n }) (ofListed o (noPositionAnswer 1) (λ K. positionFor K y m))
+      go Option.none g e = absurd (h e)
+      go (Option.some K) g e = in-calendar K (record { row = g }) (yearOut K y) (noPosition K y m) refl (noDaysThatYear K y m) refl e
+
+  module _ (n p : ℕ) (e : n ≡ positionAnswer c y m .days) (h : n ≡ 0 → ⊥) (f : OfListed c (λ K. p ≡ stripOr0 (K .strip))) where
+    pub strip-there : m ≡ p → _≡_ {A = PositionAnswer} (record { number = 0; kind = Kind.strip; days = n }) (positionAnswer c y m)
+    strip-there g = rw (eq-eqb m p g) at (days-there n p e h f)
+
+    pub month-there : ¬ (m ≡ p) → _≡_ {A = PositionAnswer} (record { number = 0; kind = Kind.month; days = n }) (positionAnswer c y m)
+    month-there g = rw (ne-eqb m p g) at (days-there n p e h f)
+
+-- which of those without days are none this year
+module _ (c m : ℕ) where
+  pub refused-as : (y : ℤ) {k : ℕ} → ¬ (k ≡ 3) → k ≡ noneNumber c y → noPositionAnswer k ≡ noneThere c m (noneNumber c y)
+  refused-as y {k} n e = let f : noPositionAnswer k ≡ noneThere c m k = rw (ne-eqb k 3 n) refl in f ∙ ap (noneThere c m) e
+
+  pub none-then : c ≡ 18 → m ≡ 7 → _≡_ {A = PositionAnswer} (record { number = 0; kind = Kind.none; days = 0 }) (noneThere c m 3)
+  none-then e f = rw (e, f) refl
+
+  pub not-hebrew : ¬ (c ≡ 18) → noPositionAnswer 3 ≡ noneThere c m 3
+  not-hebrew n = rw (ne-eqb c 18 n) refl
+
+  pub not-seventh : ¬ (m ≡ 7) → noPositionAnswer 3 ≡ noneThere c m 3
+  not-seventh n = rw (ne-eqb m 7 n, and-false (eqb c 18)) refl
 
 -- ---- and back
 

@@ -7,7 +7,7 @@ use Prim.Native.Nat.{ℕ, zero, suc, _+_, _-_, _/_, _%_, _^_, _≤_, _<_}
 use native.Mathlib.Decide.{decLt}
 use native.Mathlib.Omega.{arith}
 use borrow.Author.Tests.{lt-ltb, le-ltb, ne-eqb, eq-eqb, eqb-true}
-use lib.Dec.{eqb}
+use lib.Dec.{eqb, ltb}
 use lib.IntN.{ℤ, pos, negsuc}
 use lib.Signed.{ltZ}
 use Rattle.basics.specs.Every.{every, All}
@@ -21,8 +21,8 @@ use Rattle.calendar_rules.specs.Answers.{ofListed}
 use Rattle.calendar_rules.specs.Given.{IsListed}
 use Rattle.calendar_rules.proofs.Claims.{last-day}
 use Rattle.calendar_rules.proofs.Given.{is-listed}
-use Rattle.calendar_rules.proofs.Listed.{not-listed, found-row}
-use Rattle.asking.specs.Steps.{listed, OfListed, Answered, Sought}
+use Rattle.calendar_rules.proofs.Listed.{not-listed, found-row, strip-is}
+use Rattle.asking.specs.Steps.{listed, OfListed, Answered, Sought, stripOr0}
 
 -- an arm of a match: the calendar of its number
 pub arm : {c : ℕ} (n : ℕ) {K′ : Calendar} (P : Calendar → Type 0) → c ≡ n → calendar n ≡ Option.some K′ → P K′ → OfListed c P
@@ -141,6 +141,29 @@ module _ {c : ℕ} {K : Calendar} (l : Listed c K) where
 
   pub last-of-all : (c ≡ 7 → ⊥) → lastOf K ≡ 5373484
   last-of-all n = last-day l ∙ ap {B = ℕ} (λ (t : Bool). cond t 2380687 5373484) (ne-eqb c 7 n)
+
+-- the strips: of the Persian and the Bahai calendar, of the others up to 7, and of no more
+module _ {c : ℕ} {K : Calendar} (l : Listed c K) where
+  strip-or-0 : stripOr0 (K .strip) ≡ cond (eqb c 4) 9 (cond (eqb c 14) 19 (cond (ltb c 8) 13 0))
+  strip-or-0 = ap stripOr0 (strip-is l) ∙ go (eqb c 4) (eqb c 14) (ltb c 8)
+    where
+      go : (t u v : Bool) → stripOr0 (cond t (Option.some 9) (cond u (Option.some 19) (cond v (Option.some 13) Option.none))) ≡ cond t 9 (cond u 19 (cond v 13 0))
+      go true u v = refl
+      go false true v = refl
+      go false false true = refl
+      go false false false = refl
+
+  pub strip-persian : c ≡ 4 → stripOr0 (K .strip) ≡ 9
+  strip-persian e = strip-or-0 ∙ rw e refl
+
+  pub strip-bahai : c ≡ 14 → stripOr0 (K .strip) ≡ 19
+  strip-bahai e = strip-or-0 ∙ rw e refl
+
+  pub strip-thirteenth : ¬ (c ≡ 4) → c < 8 → stripOr0 (K .strip) ≡ 13
+  strip-thirteenth n h = strip-or-0 ∙ rw (ne-eqb c 4 n, ne-eqb c 14 (omega arith), lt-ltb c 8 h) refl
+
+  pub strip-none : ¬ (c ≡ 14) → 8 ≤ c → stripOr0 (K .strip) ≡ 0
+  strip-none n h = strip-or-0 ∙ rw (ne-eqb c 4 (omega arith), ne-eqb c 14 n, le-ltb c 8 h) refl
 
 -- ---- a position, or its length, that was sought of the year that is y years after -4712
 

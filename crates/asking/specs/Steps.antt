@@ -7,7 +7,8 @@ use lib.Dec.{eqb, ltb}
 use lib.IntN.{ℤ, negsuc}
 use lib.Signed.{ltZ}
 use Rattle.counting.specs.Years.{yearsFrom}
-use Rattle.counting.specs.Answers.{Calendar, DayAnswer, noDayAnswer, LengthAnswer, noLengthAnswer, lastDay, lastYear, yearOut, ended, lastOf}
+use Rattle.counting.specs.Answers.{Calendar, DayAnswer, noDayAnswer, lastDay, lastYear, yearOut, ended, lastOf}
+use Rattle.counting.specs.Positions.{Kind, PositionAnswer, noPositionAnswer}
 use Rattle.calendar_rules.specs.Calendars.{calendar, Listed}
 use Rattle.calendar_rules.specs.Answers.{ofListed, dateAnswer}
 
@@ -34,8 +35,17 @@ noneNumber c y = ofListed (calendar c) 1 (λ K. cond (yearOut K y) 2 3)
 abbrev pub packedNone : ℕ → ℤ → ℕ
 packedNone c y = noneNumber c y * 2 ^ 32
 
-abbrev pub noneLength : ℕ → ℤ → LengthAnswer
-noneLength c y = noLengthAnswer (noneNumber c y)
+-- the same as an answer: 3 is none where the position is one that some years have
+abbrev pub noneThere : ℕ → ℕ → ℕ → PositionAnswer
+noneThere c m k = cond (eqb k 3 && eqb c 18 && eqb m 7) (record { number = 0; kind = Kind.none; days = 0 }) (noPositionAnswer k)
+
+-- the kind of a position that has days, where the calendar's strip, or 0, is p
+abbrev pub kindAt : ℕ → ℕ → Kind
+kindAt p m = cond (eqb m p) Kind.strip Kind.month
+
+abbrev pub stripOr0 : Option ℕ → ℕ
+stripOr0 Option.none = 0
+stripOr0 (Option.some p) = p
 
 -- some calendar may have year y
 abbrev pub yearInside : ℤ → Bool

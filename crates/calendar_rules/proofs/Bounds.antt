@@ -114,3 +114,6 @@ hebrew-within i =
     let k = hebrew-kind i in
     let b = both (within (getD kinds (k .0) [])) (gapsAre (ltb (k .0) 3) (getD kinds (k .0) [])) (every-at kindTest 6 kinds-tested (k .0) (k .1)) in
     (ap within (k .2) ∙ b .0, (λ j. gapsAre (sym (k .3) j) (k .2 j)) ∙ b .1)
+
+pub hebrew-bounded : Bounded (years hebrew)
+hebrew-bounded = record { each = λ i. hebrew-within i .0 }

@@ -20,7 +20,7 @@ use Rattle.calendar_rules.specs.Calendars.{table, lookup, calendar, List
 use Rattle.calendar_rules.specs.Calendars.{egyptian, armenian, khwarizmian, persian, ethiopian, coptic, republican, macedonian, syrian, julian}
 use Rattle.calendar_rules.specs.Calendars.{gregorian, islamicA, islamicB, bahai, saka, hebrew}
 use Rattle.calendar_rules.specs.Calendars.{thirtiesAnd5, fiveAt9, thirtiesAnd5or6, fromSeptember, fromOctober, fromJanuary, inTurn, nineteens, sakaMonths}
-use Rattle.calendar_rules.proofs.Bounds.{Bounded, within, year-days, same, gapsAre, stripWithin, bothYears, each-year, hebrew-within}
+use Rattle.calendar_rules.proofs.Bounds.{Bounded, within, year-days, same, gapsAre, stripWithin, bothYears, each-year, hebrew-within, hebrew-bounded}
 
 -- ---- lookup
 
@@ -121,7 +121,7 @@ rows-sound =
     and by-row islamicB inTurn islamicLeap (λ y. refl) refl refl refl
     and by-row bahai nineteens bahaiLeap (λ y. refl) refl refl refl
     and by-row saka sakaMonths sakaLeap (λ y. refl) refl refl refl
-    and sound hebrew (record { each = λ i. hebrew-within i .0 }) (λ i. hebrew-within i .1) (λ i. refl) refl
+    and sound hebrew hebrew-bounded (λ i. hebrew-within i .1) (λ i. refl) refl
     and tt
 
 pub listed-sound : {c : ℕ} {K : Calendar} → Listed c K → Sound c K

@@ -1,10 +1,10 @@
-// The sixteen calendars: the day of a date, the date of a day, and the length of a position in a year. Each is found as plain numbers by a crate of its own
+// The sixteen calendars: the day of a date, the date of a day, and what a position of a year is. Each is found as plain numbers by a crate of its own
 // (`numbering`, `dating`, `measuring`); here it becomes an answer.
 use refusals::Refusal;
 ghost use mathlib.Core.Path.{_≡_};
-ghost use Rattle.calendar_rules.specs.Answers.{dayAnswer, dateAnswer, lengthAnswer};
-ghost use Rattle.asking.specs.Steps.{noneLength};
-ghost use Rattle.calendars.specs.Paper.{dayPaper, datePaper, lengthPaper};
+ghost use Rattle.calendar_rules.specs.Answers.{dayAnswer, dateAnswer, positionAnswer};
+ghost use Rattle.asking.specs.Steps.{noneNumber, noneThere};
+ghost use Rattle.calendars.specs.Paper.{dayPaper, datePaper, positionPaper};
 
 const LAST_DAY: u64 = 5373484;
 
@@ -27,9 +27,11 @@ pub enum Dated {
     Refused(Refusal),
 }
 
-// The answer to a position of a year: its length, or why there is none.
-pub enum Length {
-    Days(u64),
+// The answer to a position of a year: a month of so many days, a strip of so many loose days, none this year, or why there is no such position.
+pub enum Position {
+    Month(u64),
+    Strip(u64),
+    None,
     Refused(Refusal),
 }
 
@@ -49,26 +51,41 @@ pub fn date_to_day(calendar: u64, date: Date) -> Day
     }
 }
 
-// The answer to a position that there is not.
-fn no_length(c: u64, year: i64) -> Length
-    ensures { λ r. ⌜ lengthPaper r ≡ noneLength c year ⌝ }
+// A position without days in a year that the calendar has: position 7 of a common Hebrew year is none; other years have it. Any other there is not.
+fn left_out(c: u64, position: u64) -> Position
+    ensures { λ r. ⌜ positionPaper r ≡ noneThere c position 3 ⌝ }
+{
+    if c == 18 {
+        if position == 7 {
+            return Position::None;
+        }
+    }
+    Position::Refused(Refusal::NoSuchMonth)
+}
+
+// A position without days.
+fn no_days(c: u64, year: i64, position: u64) -> Position
+    ensures { λ r. ⌜ positionPaper r ≡ noneThere c position (noneNumber c year) ⌝ }
 {
     match listing::no_month(c, year) / 0x1_0000_0000 {
-        1 => Length::Refused(Refusal::UnknownCalendar),
-        2 => Length::Refused(Refusal::YearOutOfRange),
-        _ => Length::Refused(Refusal::NoSuchMonth),
+        1 => Position::Refused(Refusal::UnknownCalendar),
+        2 => Position::Refused(Refusal::YearOutOfRange),
+        _ => left_out(c, position),
     }
 }
 
-// The length of a position in a year. The refusals 1, 2, 3 are tried.
-pub fn position_length(calendar: u64, year: i64, position: u64) -> Length
-    ensures { λ r. ⌜ lengthPaper r ≡ lengthAnswer calendar year position ⌝ }
+// What a position of a year is, and its length. The refusals 1, 2, 3 are tried.
+pub fn position_of(calendar: u64, year: i64, position: u64) -> Position
+    ensures { λ r. ⌜ positionPaper r ≡ positionAnswer calendar year position ⌝ }
 {
     let days = measuring::days(calendar, year, position);
     if days == 0 {
-        return no_length(calendar, year);
+        return no_days(calendar, year, position);
     }
-    Length::Days(days)
+    if position == listing::strip(calendar) {
+        return Position::Strip(days);
+    }
+    Position::Month(days)
 }
 
 // Why a day has no date.

@@ -1,8 +1,8 @@
-// Which numbers are a calendar's, which years it may have, and its last day: what the questions to the calendars try alike.
+// Which numbers are a calendar's, which years it may have, its strip and its last day: what the questions to the calendars try alike.
 ghost use mathlib.Core.Path.{_≡_};
 ghost use Prim.Native.Nat.{_≤_};
 ghost use Rattle.counting.specs.Answers.{lastDay, lastOf};
-ghost use Rattle.asking.specs.Steps.{listed, OfListed, packedNone, yearInside, yearsSince};
+ghost use Rattle.asking.specs.Steps.{listed, OfListed, stripOr0, packedNone, yearInside, yearsSince};
 
 const FIRST_YEAR: i64 = -4712;
 
@@ -41,6 +41,25 @@ pub fn last_day(c: u64) -> u64
         return REPUBLICAN_END;
     }
     LAST_DAY
+}
+
+// The position that is a strip of loose days in a calendar that is listed; 0 where it has none.
+pub fn strip(c: u64) -> u64
+    ensures { λ r. ⌜ OfListed c (λ K. r ≡ stripOr0 (K .strip)) ⌝ }
+{
+    // Persian
+    if c == 4 {
+        return 9;
+    }
+    // Bahai
+    if c == 14 {
+        return 19;
+    }
+    // Egyptian to Republican
+    if c < 8 {
+        return 13;
+    }
+    0
 }
 
 // Whether some calendar may have such a year.

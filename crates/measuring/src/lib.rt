@@ -3,7 +3,7 @@ ghost use mathlib.Core.Path.{_≡_};
 ghost use Prim.Native.Nat.{_≤_};
 ghost use lib.IntN.{negsuc};
 ghost use Rattle.counting.specs.Years.{yearAt};
-ghost use Rattle.calendar_rules.specs.Answers.{lengthAnswer};
+ghost use Rattle.calendar_rules.specs.Answers.{positionAnswer};
 ghost use Rattle.months.specs.Parts.{lengthAt};
 ghost use Rattle.asking.specs.Steps.{Answered, Sought};
 
@@ -62,9 +62,9 @@ fn length_in(c: u64, y: u16, p: u64) -> u64
     later_length(c, y - 4713, p)
 }
 
-// The length of a position in a year; 0 where it is refused.
+// The length of a position in a year; 0 where it is none or refused.
 pub fn days(calendar: u64, year: i64, position: u64) -> u64
-    ensures { λ r. ⌜ r ≡ lengthAnswer calendar year position .days ⌝ }
+    ensures { λ r. ⌜ r ≡ positionAnswer calendar year position .days ⌝ }
 {
     if listing::year_inside(year) {
         if position == 0 {

@@ -9,7 +9,7 @@ use lib.ListN.{getD, take}
 use Rattle.counting.specs.Calendar.{total, start, dateAt}
 use Rattle.counting.specs.Years.{yearAt}
 use Rattle.counting.specs.Answers.{Calendar, years, lastDay}
-use Rattle.calendar_rules.specs.Calendars.{row, none, remainder, islamicLeap, thirtiesAnd5, thirtiesAnd5or6, inTurn}
+use Rattle.calendar_rules.specs.Calendars.{row, _stripAt_, none, remainder, islamicLeap, thirtiesAnd5, thirtiesAnd5or6, inTurn}
 
 -- in a calendar with the years L and the first day first: position p, counted from 0, of the year i years after the first. Its length, 0 where there is none,
 -- and the day that it begins on
@@ -65,10 +65,10 @@ pub record PackedAt (K : Calendar) (i p d r : ℕ) : Type 0 where
 -- ---- calendars that differ in the first day alone: 1 to 3, 5 to 7, 12 and 13
 
 abbrev pub plainFrom : ℕ → Calendar
-plainFrom first = row (pos 1) first thirtiesAnd5 none
+plainFrom first = row (pos 1) first thirtiesAnd5 none stripAt 13
 
 abbrev pub copticFrom : ℕ → Calendar
-copticFrom first = row (pos 1) first thirtiesAnd5or6 (remainder 3 4)
+copticFrom first = row (pos 1) first thirtiesAnd5or6 (remainder 3 4) stripAt 13
 
 abbrev pub islamicFrom : ℕ → Calendar
 islamicFrom first = row (pos 1) first inTurn islamicLeap
