@@ -7,10 +7,9 @@
 // One space or more stands before each number. Any other line answers `not a request`.
 mod answering;
 mod reading;
-mod writing;
 
+use printing::Sink;
 use reading::Scan;
-use writing::Sink;
 
 // Between two bytes: how far the line is read, and what waits to be written.
 struct State {
@@ -73,20 +72,25 @@ fn take_turn(state: State, input: &mut [u8], numbers: &mut [u64], out: &mut [u8]
     let after = take_piece(state, &input[..n], numbers, out);
     let scan = after.scan;
     let waiting = after.sink;
-    let sink = writing::flush(waiting, out);
-    let more = writing::is_good(sink);
+    let sink = printing::flush(waiting, out);
+    let more = printing::is_good(sink);
     let next = State { scan, sink };
     Turn { state: next, more }
 }
 
 // A last line without newline counts if it has bytes.
-fn finish(state: State, numbers: &mut [u64], out: &mut [u8]) {
+fn answer_rest(state: State, numbers: &mut [u64], out: &mut [u8]) -> Sink {
     let scan = state.scan;
     let sink = state.sink;
-    if !reading::is_start(scan) {
-        let answered = answering::answer(scan, sink, numbers, out);
-        writing::flush(answered, out);
+    if reading::is_start(scan) {
+        return sink;
     }
+    let answered = answering::answer(scan, sink, numbers, out);
+    printing::flush(answered, out)
+}
+
+fn finish(state: State, numbers: &mut [u64], out: &mut [u8]) {
+    printing::end(b"fit_lines", answer_rest(state, numbers, out));
 }
 
 fn main() {
@@ -98,7 +102,7 @@ fn main() {
     let numbers: &mut [u64] = &mut number_space;
     let out: &mut [u8] = &mut out_space;
     let scan = reading::start();
-    let sink = writing::start();
+    let sink = printing::start();
     let mut state = State { scan, sink };
     // A proved loop ends, and nothing says that the input does: the turns are counted down from a number that no run uses up.
     let mut turns = u64::MAX;
