@@ -6,7 +6,7 @@ use crate::tally;
 use crate::tally::Finding;
 use calendars::Date;
 use calendars::Day;
-use calendars::Length;
+use calendars::Position;
 use refusals::Refusal;
 
 pub(crate) fn compare_with(row: Line) -> Finding {
@@ -18,7 +18,7 @@ fn compare(calendar: u64, year: u64, length: u64) -> Finding {
     if 20000 <= year {
         return Finding::Differs;
     }
-    if sum_of_positions(calendar, year as i64) != length {
+    if !positions_sum_to(calendar, year as i64, length) {
         return Finding::Differs;
     }
     match first_day(calendar, (year + 1) as i64) {
@@ -59,22 +59,30 @@ fn begins_before(calendar: u64, year: i64, length: u64, next: u64) -> bool {
     }
 }
 
-// Thirteen lengths are far from wrapping.
-fn sum_of_positions(calendar: u64, year: i64) -> u64 {
+// Whether no position is refused, and their lengths sum up to the year's. Thirteen are far from wrapping.
+fn positions_sum_to(calendar: u64, year: i64, length: u64) -> bool {
     let mut sum = 0;
     for position in 1..14u64 {
-        sum = std::num::wrapping_add_u64(
-            sum,
-            days(calendars::position_length(calendar, year, position)),
-        );
+        let answer = calendars::position_of(calendar, year, position);
+        if is_refused(answer) {
+            return false;
+        }
+        sum = std::num::wrapping_add_u64(sum, days(answer));
     }
-    sum
+    sum == length
 }
 
-// A position that is refused has no days.
-fn days(answer: Length) -> u64 {
+fn is_refused(answer: Position) -> bool {
     match answer {
-        Length::Days(n) => n,
-        Length::Refused(_) => 0,
+        Position::Refused(_) => true,
+        _ => false,
+    }
+}
+
+fn days(answer: Position) -> u64 {
+    match answer {
+        Position::Month(n) => n,
+        Position::Strip(n) => n,
+        _ => 0,
     }
 }
