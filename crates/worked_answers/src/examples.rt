@@ -34,7 +34,7 @@ fn show_easters(good: &mut bool) {
     show::easter_of(good, 11, 1943);
 }
 
-// M-101, M-106.
+// M-101, M-106, M-108.
 fn show_requests(good: &mut bool) {
     show::day_of(good, 15, 1879, 1, 1);
     show::day_of(good, 14, 157, 1, 1);
@@ -42,4 +42,21 @@ fn show_requests(good: &mut bool) {
     show::day_of(good, 7, 14, 4, 11);
     show::date_of(good, 7, 2380687);
     show::date_of(good, 7, 2380688);
+    show_positions(good);
+}
+
+// A strip in each kind of year, months beside it, none, and a position that no year has.
+fn show_positions(good: &mut bool) {
+    show::position_of(good, 1, 1, 12);
+    show::position_of(good, 1, 1, 13);
+    show::position_of(good, 4, 1, 9);
+    show::position_of(good, 4, 1, 13);
+    show::position_of(good, 7, 20000, 13);
+    show::position_of(good, 14, 156, 19);
+    show::position_of(good, 14, 157, 19);
+    show::position_of(good, 14, 157, 20);
+    show::position_of(good, 15, 1879, 13);
+    show::position_of(good, 18, 5784, 7);
+    show::position_of(good, 18, 5785, 7);
+    show::position_of(good, 18, 5785, 14);
 }

@@ -11,7 +11,7 @@ pub(crate) fn show_all(good: &mut bool) {
     show_ended_dates(good);
     put(good, b"\nLimits: day to date\n");
     show_day_numbers(good);
-    put(good, b"\nLimits: length of a position\n");
+    put(good, b"\nLimits: position of a year\n");
     show_positions(good);
     put(good, b"\nLimits: Easter\n");
     show_easters(good);
@@ -85,18 +85,14 @@ fn show_day_numbers(good: &mut bool) {
 }
 
 fn show_positions(good: &mut bool) {
-    show::length_of(good, 16, 20001, 0);
-    show::length_of(good, 11, -4713, 1);
-    show::length_of(good, 11, 20001, 0);
-    show::length_of(good, 11, 20000, 2);
-    show::length_of(good, 11, 1900, 2);
-    show::length_of(good, 11, 2000, 0);
-    show::length_of(good, 11, 2000, 13);
-    show::length_of(good, 7, 20000, 13);
-    show::length_of(good, 18, 5784, 7);
-    show::length_of(good, 18, 5785, 7);
-    show::length_of(good, 18, 5785, 13);
-    show::length_of(good, 18, 5785, 14);
+    show::position_of(good, 16, 20001, 0);
+    show::position_of(good, 11, -4713, 1);
+    show::position_of(good, 11, 20001, 0);
+    show::position_of(good, 11, 20000, 2);
+    show::position_of(good, 11, 1900, 2);
+    show::position_of(good, 11, 2000, 0);
+    show::position_of(good, 11, 2000, 13);
+    show::position_of(good, 18, 5785, 13);
 }
 
 fn show_easters(good: &mut bool) {

@@ -33,6 +33,7 @@ pub(crate) fn put_refusal(good: &mut bool, why: Refusal) {
 // The calendar's name, or its number where it has none here.
 pub(crate) fn put_calendar(good: &mut bool, calendar: u64) {
     match calendar {
+        1 => put(good, b"Egyptian"),
         4 => put(good, b"Persian"),
         7 => put(good, b"Republican"),
         10 => put(good, b"Julian"),

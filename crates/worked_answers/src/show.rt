@@ -7,7 +7,7 @@ use crate::output::put_year;
 use calendars::Date;
 use calendars::Dated;
 use calendars::Day;
-use calendars::Length;
+use calendars::Position;
 use easter::EasterDate;
 use easter::MonthDay;
 
@@ -44,17 +44,29 @@ pub(crate) fn date_of(good: &mut bool, calendar: u64, day: u64) {
     put(good, b"\n");
 }
 
-pub(crate) fn length_of(good: &mut bool, calendar: u64, year: i64, position: u64) {
+fn put_position(good: &mut bool, answer: Position) {
+    match answer {
+        Position::Month(days) => {
+            put(good, b"month ");
+            put_number(good, days);
+        }
+        Position::Strip(days) => {
+            put(good, b"strip ");
+            put_number(good, days);
+        }
+        Position::None => put(good, b"none"),
+        Position::Refused(why) => put_refusal(good, why),
+    }
+}
+
+pub(crate) fn position_of(good: &mut bool, calendar: u64, year: i64, position: u64) {
     put_calendar(good, calendar);
     put(good, b" ");
     put_year(good, year);
     put(good, b" position ");
     put_number(good, position);
     put(good, b": ");
-    match calendars::position_length(calendar, year, position) {
-        Length::Days(n) => put_number(good, n),
-        Length::Refused(why) => put_refusal(good, why),
-    }
+    put_position(good, calendars::position_of(calendar, year, position));
     put(good, b"\n");
 }
 
