@@ -1,0 +1,91 @@
+// The answer to a request line.
+use crate::reading::Scan;
+use crate::reading::after_space;
+use crate::reading::year;
+use calendars::Position;
+use printing::Sink;
+use printing::put;
+use printing::put_all;
+use printing::put_number;
+use refusals::Refusal;
+
+// No calendar has more positions.
+const MOST_POSITIONS: u64 = 20;
+
+fn put_refusal(sink: Sink, why: Refusal, out: &mut [u8]) -> Sink {
+    put_number(
+        put_all(sink, b"refused ", out),
+        refusals::wide_number(why),
+        out,
+    )
+}
+
+// What a position is, without its number.
+fn put_kind(sink: Sink, answer: Position, out: &mut [u8]) -> Sink {
+    match answer {
+        Position::Month(days) => put_number(put_all(sink, b" month ", out), days, out),
+        Position::Strip(days) => put_number(put_all(sink, b" strip ", out), days, out),
+        Position::None => put_all(sink, b" none", out),
+        Position::Refused(_) => sink,
+    }
+}
+
+fn put_position(sink: Sink, position: u64, answer: Position, out: &mut [u8]) -> Sink {
+    let numbered = put_number(sink, position, out);
+    put(put_kind(numbered, answer, out), b'\n', out)
+}
+
+fn days(answer: Position) -> u64 {
+    match answer {
+        Position::Month(n) => n,
+        Position::Strip(n) => n,
+        _ => 0,
+    }
+}
+
+fn is_refused(answer: Position) -> bool {
+    match answer {
+        Position::Refused(_) => true,
+        _ => false,
+    }
+}
+
+// A line for each position up to the first that is refused, and the days of all. Twenty lengths are far from wrapping.
+fn put_positions(start: Sink, calendar: u64, year: i64, out: &mut [u8]) -> Sink {
+    let mut sink = start;
+    let mut sum = 0;
+    for position in 1..=MOST_POSITIONS {
+        let answer = calendars::position_of(calendar, year, position);
+        if is_refused(answer) {
+            break;
+        }
+        sink = put_position(sink, position, answer, out);
+        sum = std::num::wrapping_add_u64(sum, days(answer));
+    }
+    put_all(put_number(sink, sum, out), b" days", out)
+}
+
+// Where the calendar or the year is refused, so is its first position.
+fn answer_request(sink: Sink, calendar: u64, year: i64, out: &mut [u8]) -> Sink {
+    match calendars::position_of(calendar, year, 1) {
+        Position::Refused(why) => put_refusal(sink, why, out),
+        _ => put_positions(sink, calendar, year, out),
+    }
+}
+
+fn answer_line(scan: Scan, sink: Sink, out: &mut [u8]) -> Sink {
+    match after_space(scan) {
+        Scan::End(calendar, minus, distance) => answer_request(
+            sink,
+            calendar,
+            year(minus, distance),
+            out,
+        ),
+        _ => put_all(sink, b"not a request", out),
+    }
+}
+
+// The answer to a line of which no byte is left, with a newline.
+pub(crate) fn answer(scan: Scan, sink: Sink, out: &mut [u8]) -> Sink {
+    put(answer_line(scan, sink, out), b'\n', out)
+}
