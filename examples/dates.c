@@ -1,5 +1,5 @@
-/* The library from C: dates both ways, Easter, a code fitted and unfolded, a line of a sheet judged, and refusals. Prints what it asked, and ends with a status
- * that is not 0 where an answer is not as expected. examples/run builds and runs it. */
+/* The library from C: dates both ways, positions, Easter, a code fitted and unfolded, a line of a sheet judged, and refusals. Prints what it asked, and
+ * ends with a status that is not 0 where an answer is not as expected. examples/run builds and runs it. */
 #include <inttypes.h>
 #include <stdio.h>
 #include <string.h>
@@ -18,7 +18,7 @@ static void expect(int good, const char *what) {
 static void dates(void) {
     struct ijok_day d = ijok_date_to_day(IJOK_GREGORIAN, 2000, 2, 29);
     struct ijok_date hebrew = ijok_day_to_date(IJOK_HEBREW, d.day);
-    struct ijok_length february = ijok_position_length(IJOK_GREGORIAN, 2000, 2);
+    struct ijok_position february = ijok_position(IJOK_GREGORIAN, 2000, 2);
     struct ijok_date first = ijok_day_to_date(IJOK_JULIAN, 0);
 
     expect(d.number == IJOK_DONE && d.day == 2451604, "29 February 2000");
@@ -27,15 +27,28 @@ static void dates(void) {
     expect(hebrew.number == IJOK_DONE && hebrew.year == 5760 && hebrew.month == 6 && hebrew.day == 23, "that day in the Hebrew calendar");
     printf("in the Hebrew calendar year %" PRId64 ", position %" PRIu64 ", day %" PRIu64 "\n", hebrew.year, hebrew.month, hebrew.day);
 
-    expect(february.number == IJOK_DONE && february.days == 29, "the length of February 2000");
+    expect(february.number == IJOK_DONE && february.kind == IJOK_MONTH && february.days == 29, "February 2000, a month of 29 days");
     expect(first.number == IJOK_DONE && first.year == -4712 && first.month == 1 && first.day == 1, "day 0");
+}
+
+/* A position is a month, a strip of loose days, or none in a year that lacks it, with the answer 0. */
+static void positions(void) {
+    struct ijok_position loose = ijok_position(IJOK_COPTIC, 3, 13);
+    struct ijok_position none = ijok_position(IJOK_HEBREW, 5759, 7);
+    struct ijok_position beyond = ijok_position(IJOK_HEBREW, 5759, 14);
+
+    expect(loose.number == IJOK_DONE && loose.kind == IJOK_STRIP && loose.days == 6, "position 13 of a Coptic leap year");
+    printf("position 13 of the Coptic year 3 is a strip of %" PRIu64 " days\n", loose.days);
+
+    expect(none.number == IJOK_DONE && none.kind == IJOK_NONE && none.days == 0, "position 7 of a common Hebrew year");
+    expect(ijok_date_to_day(IJOK_HEBREW, 5759, 7, 1).number == IJOK_NO_SUCH_MONTH, "a date there");
+    expect(beyond.number == IJOK_NO_SUCH_MONTH && beyond.kind == IJOK_NONE && beyond.days == 0, "position 14 of a Hebrew year");
 }
 
 /* A refusal has its number, and 0 in every other field. */
 static void refusals(void) {
     struct ijok_day d = ijok_date_to_day(IJOK_GREGORIAN, 1900, 2, 29);
     struct ijok_date early = ijok_day_to_date(IJOK_HEBREW, 0);
-    struct ijok_length none = ijok_position_length(IJOK_HEBREW, 5759, 7);
     struct ijok_day last = ijok_date_to_day(IJOK_REPUBLICAN, 14, 4, 10);
     struct ijok_day ended = ijok_date_to_day(IJOK_REPUBLICAN, 14, 4, 11);
     struct ijok_date after = ijok_day_to_date(IJOK_REPUBLICAN, IJOK_REPUBLICAN_END + 1);
@@ -44,7 +57,6 @@ static void refusals(void) {
     printf("29 February 1900 is refused %" PRIu64 "\n", d.number);
 
     expect(early.number == IJOK_DAY_OUT_OF_RANGE && early.year == 0 && early.month == 0 && early.day == 0, "a day before the Hebrew calendar's first");
-    expect(none.number == IJOK_NO_SUCH_MONTH && none.days == 0, "position 7 of a common Hebrew year");
     expect(last.number == IJOK_DONE && last.day == IJOK_REPUBLICAN_END, "the last Republican date");
     expect(ended.number == IJOK_CALENDAR_ENDED && ended.day == 0, "the Republican date after it");
     printf("14/4/10 is the last Republican date, and 14/4/11 is refused %" PRIu64 "\n", ended.number);
@@ -103,6 +115,7 @@ static void sheet(void) {
 
 int main(void) {
     dates();
+    positions();
     refusals();
     easter();
     lines();

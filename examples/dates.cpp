@@ -53,7 +53,10 @@ void ask() {
     expect(next.year == 1582 && next.month == 10 && next.day == 15, "the next day, Gregorian");
     std::printf("the day after 4 October 1582 Julian is %d-%d-%d Gregorian\n", int(next.year), int(next.month), int(next.day));
 
-    expect(done(ijok_position_length(IJOK_PERSIAN, 1, 9)).days == 5, "position 9 of a Persian year");
+    struct ijok_position loose = done(ijok_position(IJOK_PERSIAN, 1, 9));
+    expect(loose.kind == IJOK_STRIP && loose.days == 5, "position 9 of a Persian year");
+    expect(done(ijok_position(IJOK_HEBREW, 5759, 7)).kind == IJOK_NONE, "position 7 of a common Hebrew year");
+    std::printf("position 9 of a Persian year is a strip of %d days\n", int(loose.days));
 
     struct ijok_easter feast = done(ijok_easter(IJOK_JULIAN, 7453));
     expect(feast.month == 4 && feast.day == 12, "Easter 7453, Julian");
@@ -69,6 +72,7 @@ void ask() {
 
     expect_refused(IJOK_NO_SUCH_DAY, [] { return done(ijok_date_to_day(IJOK_ISLAMIC_B, 1, 12, 30)); }, "a day beyond the month");
     expect_refused(IJOK_UNKNOWN_CALENDAR, [] { return done(ijok_day_to_date(17, 0)); }, "calendar 17");
+    expect_refused(IJOK_NO_SUCH_MONTH, [] { return done(ijok_position(IJOK_GREGORIAN, 2000, 13)); }, "position 13 of a Gregorian year");
     expect_refused(IJOK_YEAR_OUT_OF_RANGE, [] { return done(ijok_easter(IJOK_JULIAN, 0)); }, "Easter of year 0");
     expect_refused(IJOK_NO_LINE, [] { const std::uint64_t c[] = {28, 30}; return done(ijok_fit(c, 2)); }, "28 30");
     // an empty vector's data may be null

@@ -75,7 +75,7 @@ enum ijok_answer {
     IJOK_DONE = 0,
     IJOK_UNKNOWN_CALENDAR = 1,    /* the calendar's number is not listed above; for Easter, it is not 10 or 11 */
     IJOK_YEAR_OUT_OF_RANGE = 2,   /* the year is below the calendar's first or above 20,000; for Easter, outside its years */
-    IJOK_NO_SUCH_MONTH = 3,       /* the month is 0, above the positions, or of no days that year */
+    IJOK_NO_SUCH_MONTH = 3,       /* a date's month is 0, above the positions, or of no days that year; a position is 0 or above the positions */
     IJOK_NO_SUCH_DAY = 4,         /* the day is 0 or beyond the month */
     IJOK_DAY_OUT_OF_RANGE = 5,    /* the day number is above IJOK_LAST_DAY or before the calendar's first day */
     IJOK_CODE_OUT_OF_LIMITS = 6,  /* no lengths, more than 512, or one above 400; a count to unfold that is not 1 to 512 */
@@ -85,6 +85,13 @@ enum ijok_answer {
     IJOK_LINE_OUT_OF_LIMITS = 10, /* the line to unfold has not b from 1 to 512, r from 0 to b - 1 and a from 0 to 400 b */
     IJOK_BUFFER_TOO_SHORT = 11,   /* the buffer has less room than the count */
     IJOK_CALENDAR_ENDED = 17      /* the date exists, or the day is in range, and it lies after the calendar's end */
+};
+
+/* The kinds of a position. */
+enum ijok_kind {
+    IJOK_NONE = 0,  /* refused, or beside answer 0 a position that this year has not */
+    IJOK_MONTH = 1, /* a month */
+    IJOK_STRIP = 2  /* loose days after the last month or between two months */
 };
 
 struct ijok_day {
@@ -99,8 +106,9 @@ struct ijok_date {
     uint64_t day;
 };
 
-struct ijok_length {
+struct ijok_position {
     uint64_t number;
+    uint64_t kind; /* one of enum ijok_kind */
     uint64_t days;
 };
 
@@ -123,16 +131,20 @@ struct ijok_day ijok_date_to_day(uint64_t calendar, int64_t year, uint64_t month
 /* The date of a day number. Tries 1, 5, 17. */
 struct ijok_date ijok_day_to_date(uint64_t calendar, uint64_t day);
 
-/* The days of a position of a year: a month, or days between two months. Tries 1, 2, 3; an end is no matter. */
-struct ijok_length ijok_position_length(uint64_t calendar, int64_t year, uint64_t position);
-
-/* The date of Easter by calendar 10, in years 1 to 9,999, or 11, in years 1,583 to 9,999. Tries 1, 2. The function hides the struct's name from
- * C++, where the type is written `struct ijok_easter` as in C. */
+/* The two functions below hide the names of their structs from C++, where the types are written `struct ijok_position` and `struct ijok_easter` as in C. */
 #if defined(__cplusplus) && defined(__GNUC__)
 #pragma GCC diagnostic push
 #pragma GCC diagnostic ignored "-Wshadow"
 #endif
+
+/* The kind and the days of a position of a year. A strip is position 13 of calendars 1, 2, 3, 5, 6 and 7, position 9 of 4 and position 19 of 14. None is
+ * a position that the calendar has and this year has not: position 7 of a common Hebrew year, with answer 0 and 0 days, while a date there is refused 3.
+ * Every other position is a month. Tries 1, 2, 3; an end is no matter. */
+struct ijok_position ijok_position(uint64_t calendar, int64_t year, uint64_t position);
+
+/* The date of Easter by calendar 10, in years 1 to 9,999, or 11, in years 1,583 to 9,999. Tries 1, 2. */
 struct ijok_easter ijok_easter(uint64_t calendar, int64_t year);
+
 #if defined(__cplusplus) && defined(__GNUC__)
 #pragma GCC diagnostic pop
 #endif
