@@ -179,6 +179,13 @@ void hebrew_years(Almanac &a) {
     }
 }
 
+// The strips as the change request lists them.
+bool strip(uint64_t calendar, uint64_t position) {
+    static const std::map<uint64_t, uint64_t> strips = {{1, 13}, {2, 13}, {3, 13}, {5, 13}, {6, 13}, {7, 13}, {4, 9}, {14, 19}};
+    const auto found = strips.find(calendar);
+    return found != strips.end() && found->second == position;
+}
+
 Almanac made(uint64_t calendar) {
     static const std::map<uint64_t, int64_t> first_days = {{1, 1448638}, {2, 1922868},  {3, 1952068},  {4, 1952063}, {5, 1724221}, {6, 1825030},
                                                            {7, 2375840}, {8, 1607709},  {9, 1607739},  {10, 0},      {11, 38},     {12, 1948439},
@@ -197,6 +204,7 @@ Almanac made(uint64_t calendar) {
         a.begins.push_back(day);
         day += total(l);
     }
+    a.begins.push_back(day);
     return a;
 }
 
@@ -221,20 +229,24 @@ bool listed(uint64_t calendar) {
     return false;
 }
 
-ijok_length naive_position_length(uint64_t calendar, int64_t year, uint64_t position) {
+struct ijok_position naive_position(uint64_t calendar, int64_t year, uint64_t position) {
+    if (!listed(calendar)) return {UNKNOWN_CALENDAR, NONE, 0};
+    const Almanac &a = almanac(calendar);
+    if (year < a.first_year || year > LAST_YEAR) return {YEAR_OUT_OF_RANGE, NONE, 0};
+    const Lengths &l = a.year(year);
+    if (position < 1 || position > l.size()) return {NO_SUCH_MONTH, NONE, 0};
+    const uint64_t days = uint64_t(l[position - 1]);
+    return {DONE, days == 0 ? NONE : strip(calendar, position) ? STRIP : MONTH, days};
+}
+
+// A month of no days is 3 here, though asked for by itself it is none.
+ijok_day naive_date_to_day(uint64_t calendar, int64_t year, uint64_t month, uint64_t day) {
     if (!listed(calendar)) return {UNKNOWN_CALENDAR, 0};
     const Almanac &a = almanac(calendar);
     if (year < a.first_year || year > LAST_YEAR) return {YEAR_OUT_OF_RANGE, 0};
     const Lengths &l = a.year(year);
-    if (position < 1 || position > l.size() || l[position - 1] == 0) return {NO_SUCH_MONTH, 0};
-    return {DONE, uint64_t(l[position - 1])};
-}
-
-ijok_day naive_date_to_day(uint64_t calendar, int64_t year, uint64_t month, uint64_t day) {
-    ijok_length length = naive_position_length(calendar, year, month);
-    if (length.number) return {length.number, 0};
-    if (day < 1 || day > length.days) return {NO_SUCH_DAY, 0};
-    const Almanac &a = almanac(calendar);
+    if (month < 1 || month > l.size() || l[month - 1] == 0) return {NO_SUCH_MONTH, 0};
+    if (day < 1 || day > uint64_t(l[month - 1])) return {NO_SUCH_DAY, 0};
     const Date date = {year, month, day};
     if (a.ends_before(date)) return {AFTER_THE_END, 0};
     int64_t n = a.counted(date);

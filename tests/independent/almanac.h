@@ -24,6 +24,9 @@ enum Answer : uint64_t {
     AFTER_THE_END = 17
 };
 
+// The kinds of a position: none, where the answer is a refusal or the year lacks the position, a month, a strip of loose days.
+enum Kind : uint64_t { NONE = 0, MONTH = 1, STRIP = 2 };
+
 struct Date {
     int64_t year;
     uint64_t month, day;
@@ -34,13 +37,14 @@ struct Date {
 struct Almanac {
     int64_t first_year = 0;
     int64_t first_day = 0;
-    // the positions of each year from the first to 20,000, and the day on which each begins
+    // the positions of each year from the first to 20,000, and the day on which each begins, 20,001 too
     std::vector<std::vector<int>> lengths;
     std::vector<int64_t> begins;
     // the last date, where the calendar was given up. The lengths go on after it
     std::optional<Date> end;
 
     const std::vector<int> &year(int64_t y) const { return lengths[y - first_year]; }
+    int64_t days_of(int64_t y) const { return begins[y - first_year + 1] - begins[y - first_year]; }
     bool ends_before(const Date &date) const { return end && *end < date; }
     // The day of a date that exists, counted on past the end and the last day.
     int64_t counted(const Date &date) const;
@@ -52,7 +56,7 @@ const Almanac &almanac(uint64_t calendar);
 bool listed(uint64_t calendar);
 
 ijok_day naive_date_to_day(uint64_t calendar, int64_t year, uint64_t month, uint64_t day);
-ijok_length naive_position_length(uint64_t calendar, int64_t year, uint64_t position);
+struct ijok_position naive_position(uint64_t calendar, int64_t year, uint64_t position);
 
 void compare_calendars();
 void compare_easter();

@@ -1,6 +1,7 @@
-// Every day and every date of the sixteen calendars, both ways, and what is refused.
+// Every day and every date of the sixteen calendars, both ways, every position of every year, and what is refused.
 #include <cinttypes>
 #include <limits>
+#include <string>
 
 #include "almanac.h"
 #include "report.h"
@@ -76,9 +77,14 @@ void days_outside() {
     }
 }
 
-void length_at(uint64_t c, int64_t y, uint64_t p) {
-    report.same(ijok_position_length(c, y, p), naive_position_length(c, y, p), "length, calendar %" PRIu64 ", year %" PRId64 ", position %" PRIu64, c, y, p);
+// One comparison of a position; answers what the library says.
+struct ijok_position position_is(uint64_t c, int64_t y, uint64_t p, const Fields &expected) {
+    const struct ijok_position got = ijok_position(c, y, p);
+    report.same(got, expected, "position, calendar %" PRIu64 ", year %" PRId64 ", position %" PRIu64, c, y, p);
+    return got;
 }
+
+struct ijok_position position_at(uint64_t c, int64_t y, uint64_t p) { return position_is(c, y, p, naive_position(c, y, p)); }
 
 bool date_at(uint64_t c, int64_t y, uint64_t m, uint64_t d) { return date_to_day(c, {y, m, d}, naive_date_to_day(c, y, m, d)); }
 
@@ -99,7 +105,7 @@ const std::vector<uint64_t> ODD_DAYS = {0, 1, 2, 4, 5, 6, 9, 10, 11, 18, 19, 20,
 void limits_of(uint64_t c, int64_t first) {
     for (int64_t y : odd_years(first))
         for (uint64_t m : ODD_MONTHS) {
-            length_at(c, y, m);
+            position_at(c, y, m);
             for (uint64_t d : ODD_DAYS) date_at(c, y, m, d);
         }
 }
@@ -135,6 +141,103 @@ void end_written_out() {
     }
 }
 
+// How many positions of a calendar are of each kind, and how many are refused.
+struct Kinds {
+    uint64_t months = 0, strips = 0, nones = 0, refused = 0;
+
+    void count(const struct ijok_position &x) { ++(x.number ? refused : x.kind == STRIP ? strips : x.kind == MONTH ? months : nones); }
+    void add(const Kinds &k) {
+        months += k.months;
+        strips += k.strips;
+        nones += k.nones;
+        refused += k.refused;
+    }
+};
+
+// The same for positions 0 to 21 by counting, with neither lengths nor the table of strips: a year has twelve months, a Bahai one nineteen; eight calendars have a
+// strip a year; of nineteen Hebrew years seven have a thirteenth month, and in the other twelve its position is none.
+Kinds predicted(uint64_t c) {
+    const uint64_t years = c == IJOK_JULIAN || c == IJOK_GREGORIAN ? 4713 + 20000 : 20000;
+    Kinds k = {years * (c == IJOK_BAHAI ? 19 : 12), c <= IJOK_REPUBLICAN || c == IJOK_BAHAI ? years : 0, 0, 0};
+    if (c == IJOK_HEBREW) {
+        const std::string cycle = "cclcclclcclcclcclcl";
+        for (uint64_t y = 0; y < years; ++y) ++(cycle[y % 19] == 'l' ? k.months : k.nones);
+    }
+    k.refused = years * 22 - k.months - k.strips - k.nones;
+    return k;
+}
+
+// Positions 0 to 21 of every year: the answers; that months have 19 days or more, strips 4 to 6 and none 0; that all days together are the year's, as counted and as
+// the library's own dates of 1/1 are apart.
+Kinds positions_of(uint64_t c) {
+    const Almanac &a = almanac(c);
+    Kinds kinds;
+    ijok_day begins = ijok_date_to_day(c, a.first_year, 1, 1);
+    for (int64_t y = a.first_year; y <= LAST_YEAR; ++y) {
+        uint64_t days = 0;
+        for (uint64_t p = 0; p <= 21; ++p) {
+            const struct ijok_position got = position_at(c, y, p);
+            kinds.count(got);
+            days += got.days;
+            const uint64_t by_days = got.days >= 19 ? MONTH : got.days >= 4 && got.days <= 6 ? STRIP : NONE;
+            report.same(got.kind, by_days, "the kind by the days, calendar %" PRIu64 ", year %" PRId64 ", position %" PRIu64, c, y, p);
+        }
+        report.same(days, uint64_t(a.days_of(y)), "the days of all positions, calendar %" PRIu64 ", year %" PRId64, c, y);
+        const ijok_day next = ijok_date_to_day(c, y + 1, 1, 1);
+        if (next.number == DONE) report.same(days, next.day - begins.day, "the days to the next 1/1, calendar %" PRIu64 ", year %" PRId64, c, y);
+        begins = next;
+    }
+    return kinds;
+}
+
+// What the answer for a position says of the dates there, both from the library: a refusal is theirs too, none is 3, a day that is not among its days is 4, and any
+// other date has a day or lies after the last day or the end.
+void dates_there(uint64_t c, int64_t y, uint64_t p) {
+    const struct ijok_position at = ijok_position(c, y, p);
+    const auto one = [&](uint64_t d) {
+        const uint64_t got = ijok_date_to_day(c, y, p, d).number;
+        const bool has = (at.kind == MONTH || at.kind == STRIP) && d >= 1 && d <= at.days;
+        const uint64_t expected = at.number ? at.number : at.kind == NONE ? NO_SUCH_MONTH : has ? DONE : NO_SUCH_DAY;
+        report.same(got == DAY_OUT_OF_RANGE || got == AFTER_THE_END ? DONE : got, expected,
+                    "a date by its position, calendar %" PRIu64 ", %" PRId64 "/%" PRIu64 "/%" PRIu64, c, y, p, d);
+    };
+    for (uint64_t d = 0; d <= 32; ++d) one(d);
+    for (uint64_t d : {(uint64_t(1) << 32) + 1, uint64_t(1) << 63, TOP}) one(d);
+}
+
+// The change request's own words and the places around them, written out.
+void positions_written_out() {
+    struct Row {
+        uint64_t c;
+        int64_t y;
+        uint64_t p;
+        struct ijok_position expected;
+    };
+    const std::vector<Row> rows = {
+        {1, 1, 12, {DONE, MONTH, 30}},      {1, 1, 13, {DONE, STRIP, 5}},      {1, 1, 14, {NO_SUCH_MONTH, NONE, 0}}, {1, 1, 0, {NO_SUCH_MONTH, NONE, 0}},
+        {2, 20000, 13, {DONE, STRIP, 5}},   {3, 3, 13, {DONE, STRIP, 5}},      {4, 1, 8, {DONE, MONTH, 30}},         {4, 1, 9, {DONE, STRIP, 5}},
+        {4, 1, 10, {DONE, MONTH, 30}},      {4, 1, 13, {DONE, MONTH, 30}},     {4, 1, 14, {NO_SUCH_MONTH, NONE, 0}}, {5, 2, 13, {DONE, STRIP, 5}},
+        {5, 3, 13, {DONE, STRIP, 6}},       {6, 3, 13, {DONE, STRIP, 6}},      {6, 4, 13, {DONE, STRIP, 5}},         {7, 3, 13, {DONE, STRIP, 6}},
+        {7, 14, 4, {DONE, MONTH, 30}},      {7, 14, 13, {DONE, STRIP, 5}},     {7, 15, 13, {DONE, STRIP, 6}},        {7, 20000, 13, {DONE, STRIP, 5}},
+        {7, 20000, 9, {DONE, MONTH, 30}},   {7, 20001, 13, {YEAR_OUT_OF_RANGE, NONE, 0}},                            {7, 20000, 14, {NO_SUCH_MONTH, NONE, 0}},
+        {8, 1, 12, {DONE, MONTH, 31}},      {9, 3, 5, {DONE, MONTH, 29}},      {10, -4712, 2, {DONE, MONTH, 29}},    {11, 1900, 2, {DONE, MONTH, 28}},
+        {11, 2000, 13, {NO_SUCH_MONTH, NONE, 0}},                              {12, 2, 12, {DONE, MONTH, 30}},       {13, 1, 12, {DONE, MONTH, 29}},
+        {14, 1, 18, {DONE, MONTH, 19}},     {14, 1, 19, {DONE, STRIP, 4}},     {14, 156, 19, {DONE, STRIP, 5}},      {14, 1, 20, {DONE, MONTH, 19}},
+        {14, 1, 21, {NO_SUCH_MONTH, NONE, 0}},                                 {14, 1, 13, {DONE, MONTH, 19}},       {15, 1, 12, {DONE, MONTH, 30}},
+        {15, 1, 13, {NO_SUCH_MONTH, NONE, 0}},                                 {18, 1, 7, {DONE, NONE, 0}},          {18, 5759, 7, {DONE, NONE, 0}},
+        {18, 5760, 7, {DONE, MONTH, 29}},   {18, 20000, 7, {DONE, NONE, 0}},   {18, 5759, 6, {DONE, MONTH, 29}},     {18, 5760, 6, {DONE, MONTH, 30}},
+        {18, 5759, 13, {DONE, MONTH, 29}},  {18, 5759, 14, {NO_SUCH_MONTH, NONE, 0}},                                {18, 5760, 14, {NO_SUCH_MONTH, NONE, 0}},
+        {18, 0, 7, {YEAR_OUT_OF_RANGE, NONE, 0}},                              {18, 20001, 7, {YEAR_OUT_OF_RANGE, NONE, 0}},
+        {16, 1, 13, {UNKNOWN_CALENDAR, NONE, 0}},                              {0, 0, 0, {UNKNOWN_CALENDAR, NONE, 0}},
+        {1, 0, 0, {YEAR_OUT_OF_RANGE, NONE, 0}},                               {1, 1, TOP, {NO_SUCH_MONTH, NONE, 0}}};
+    for (const Row &row : rows) {
+        position_is(row.c, row.y, row.p, row.expected);
+        report.same(naive_position(row.c, row.y, row.p), row.expected, "the naive position, calendar %" PRIu64 ", year %" PRId64 ", position %" PRIu64, row.c, row.y, row.p);
+    }
+    for (int64_t y : {1, 5759, 20000})
+        for (uint64_t d = 0; d <= 31; ++d) date_to_day(IJOK_HEBREW, {y, 7, d}, NO_SUCH_MONTH);
+}
+
 }  // namespace
 
 void compare_calendars() {
@@ -162,15 +265,40 @@ void compare_calendars() {
     days_outside();
     report.line("days beyond the last, and days in calendars that are not listed");
 
+    positions_written_out();
+    report.line("positions written out, and Hebrew dates at position 7 of common years refused 3");
+
+    std::vector<Kinds> kinds;
+    for (uint64_t c : LISTED) kinds.push_back(positions_of(c));
+    report.line("positions 0 to 21, every year to 20000: number, kind and days; the kind by the days; all days of a year by counting, and to the next 1/1");
+
+    Kinds all;
+    for (size_t k = 0; k < LISTED.size(); ++k) {
+        const uint64_t c = LISTED[k];
+        const Kinds expected = predicted(c);
+        report.same(kinds[k].months, expected.months, "how many positions are months, calendar %" PRIu64, c);
+        report.same(kinds[k].strips, expected.strips, "how many positions are strips, calendar %" PRIu64, c);
+        report.same(kinds[k].nones, expected.nones, "how many positions are none, calendar %" PRIu64, c);
+        report.same(kinds[k].refused, expected.refused, "how many positions are refused, calendar %" PRIu64, c);
+        all.add(kinds[k]);
+    }
+    report.line(("how many of these are of each kind, in each calendar; together " + std::to_string(all.months) + " months, " + std::to_string(all.strips) + " strips, " +
+                 std::to_string(all.nones) + " none (common Hebrew years), " + std::to_string(all.refused) + " refused")
+                    .c_str());
+
+    // 23 has no factor with the cycles of 4, 19, 30 and 400 years
     for (uint64_t c : LISTED)
-        for (int64_t y = almanac(c).first_year; y <= LAST_YEAR; ++y)
-            for (uint64_t p = 0; p <= 21; ++p) length_at(c, y, p);
-    report.line("lengths of positions 0 to 21, every year to 20000");
+        for (int64_t y = almanac(c).first_year - 1; y <= LAST_YEAR + 1; ++y)
+            if (y % 23 == 0 || y < almanac(c).first_year + 40 || y > LAST_YEAR - 20)
+                for (uint64_t p = 0; p <= 21; ++p) dates_there(c, y, p);
+    for (uint64_t c : UNLISTED)
+        for (uint64_t p = 0; p <= 21; ++p) dates_there(c, 1, p);
+    report.line("dates by what the library says of their position: days 0 to 32 and huge ones, positions 0 to 21, every 23rd year and those about the limits");
 
     for (uint64_t c : LISTED)
         for (int64_t y = almanac(c).first_year; y <= LAST_YEAR; ++y)
             for (uint64_t p = 0; p <= almanac(c).year(y).size() + 1; ++p) {
-                uint64_t days = naive_position_length(c, y, p).days;
+                uint64_t days = naive_position(c, y, p).days;
                 date_at(c, y, p, 0);
                 date_at(c, y, p, 1);
                 date_at(c, y, p, days);
@@ -180,7 +308,7 @@ void compare_calendars() {
 
     for (uint64_t c : LISTED) limits_of(c, almanac(c).first_year);
     for (uint64_t c : UNLISTED) limits_of(c, 1);
-    report.line("dates and lengths at and beyond every limit, calendars 0, 16, 17, 19 .. 2^64-1 among them");
+    report.line("dates and positions at and beyond every limit, calendars 0, 16, 17, 19 .. 2^64-1 among them");
 
     Random random{7};
     for (int k = 0; k < 2000000; ++k) {
@@ -189,7 +317,7 @@ void compare_calendars() {
         uint64_t m = random.one_in(8) ? random.next() : random.next() % 24;
         uint64_t d = random.one_in(8) ? random.next() : random.next() % 40;
         date_at(c, y, m, d);
-        length_at(c, y, m);
+        position_at(c, y, m);
     }
     report.line("random dates and positions, one argument in eight of any 64 bits");
 }

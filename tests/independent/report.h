@@ -14,7 +14,7 @@ struct Fields {
     Fields(uint64_t number) : values{number} {}
     Fields(ijok_day x) : values{x.number, x.day} {}
     Fields(ijok_date x) : values{x.number, uint64_t(x.year), x.month, x.day} {}
-    Fields(ijok_length x) : values{x.number, x.days} {}
+    Fields(struct ijok_position x) : values{x.number, x.kind, x.days} {}
     Fields(struct ijok_easter x) : values{x.number, x.month, x.day} {}
     Fields(ijok_line x) : values{x.number, x.a, x.b, x.r} {}
 
