@@ -1,16 +1,19 @@
 -- What is shown of the functions for C, on one page. Each promise in `src/lib.rt` is an equation, for every input: the fields of the struct that C gets
--- (`dayFields`, `dateFields`, `lengthFields` of specs/Fields.antt) are the answer that crate calendar_rules defines (`dayAnswer`, `dateAnswer`,
--- `lengthAnswer`). What these mean is on its claims page. Here: where the number is not 0, every other field is 0.
+-- (`dayFields`, `dateFields`, `positionFields` of specs/Fields.antt) are the answer that crate calendar_rules defines (`dayAnswer`, `dateAnswer`,
+-- `positionAnswer`). What these mean is on its claims page. Here: where the number is not 0, every other field is 0.
 use mathlib.Core.Path.{_≡_, refl}
 use mathlib.Core.Option.{Option}
 use Prim.Native.Nat.{ℕ}
 use lib.IntN.{ℤ, pos}
 use Rattle.basics.proofs.Cases.{cond-elim}
 use Rattle.refusals.specs.Number.{Refused}
-use Rattle.counting.specs.Answers.{Calendar, DayAnswer, DateAnswer, LengthAnswer, noDayAnswer, noDateAnswer, noLengthAnswer}
-use Rattle.counting.specs.Answers.{yearOut, noMonth, noDay, dayOut, ended, dayNumber, dayFor, dateFor, lengthFor}
+use Rattle.counting.specs.Answers.{Calendar, DayAnswer, DateAnswer, noDayAnswer, noDateAnswer}
+use Rattle.counting.specs.Answers.{yearOut, noMonth, noDay, dayOut, ended, dayNumber, dayFor, dateFor}
+use Rattle.counting.specs.Positions.{PositionAnswer, noPosition, noPositionAnswer, positionFor}
 use Rattle.calendar_rules.specs.Calendars.{calendar}
-use Rattle.calendar_rules.specs.Answers.{ofListed, dayAnswer, dateAnswer, lengthAnswer}
+use Rattle.calendar_rules.specs.Answers.{ofListed, dayAnswer, dateAnswer, positionAnswer}
+use Rattle.c_dates.specs.Fields.{positionFields}
+use Rattle.c_dates.specs.declared.PositionFields.{PositionFields}
 
 -- what holds of the refusal and of every calendar's answer holds of what is answered for a number
 listed-elim : {A : Type 0} (P : A → Type 0) (o : Option Calendar) (refusal : A) (answer : Calendar → A) → P refusal → ((K : Calendar) → P (answer K))
@@ -51,17 +54,20 @@ date-zero c n =
     (λ K. cond-elim DateZero (dayOut K n) _ _ (λ e. no-date 5)
     (λ e. cond-elim DateZero (ended K n) _ _ (λ e. no-date 17) (λ e. record { zero = λ h. absurd (h refl) })))
 
--- ---- the length of a position
+-- ---- a position of a year
 
-pub record LengthZero (x : LengthAnswer) : Type 0 where
-  pub zero : Refused (x .number) → x .days ≡ 0
+pub record PositionZero (x : PositionFields) : Type 0 where
+  pub zero : Refused (x .number) → (x .kind ≡ 0) × (x .days ≡ 0)
 
-no-length : (k : ℕ) → LengthZero (noLengthAnswer k)
-no-length k = record { zero = λ h. refl }
+abbrev Zero : PositionAnswer → Type 0
+Zero x = PositionZero (positionFields x)
 
-pub length-zero : (c : ℕ) (y : ℤ) (m : ℕ) → LengthZero (lengthAnswer c y m)
-unfolding lengthAnswer lengthFor
-length-zero c y m =
-    listed-elim LengthZero (calendar c) _ _ (no-length 1)
-    (λ K. cond-elim LengthZero (yearOut K y) _ _ (λ e. no-length 2)
-    (λ e. cond-elim LengthZero (noMonth K y m) _ _ (λ e. no-length 3) (λ e. record { zero = λ h. absurd (h refl) })))
+no-position : (k : ℕ) → Zero (noPositionAnswer k)
+no-position k = record { zero = λ h. (refl, refl) }
+
+pub position-zero : (c : ℕ) (y : ℤ) (m : ℕ) → PositionZero (positionFields (positionAnswer c y m))
+unfolding positionAnswer positionFor
+position-zero c y m =
+    listed-elim Zero (calendar c) _ _ (no-position 1)
+    (λ K. cond-elim Zero (yearOut K y) _ _ (λ e. no-position 2)
+    (λ e. cond-elim Zero (noPosition K y m) _ _ (λ e. no-position 3) (λ e. record { zero = λ h. absurd (h refl) })))

@@ -1,11 +1,11 @@
 // The calendars for C, C++ and Rust (`include/ijok.h`). An answer is returned as a struct by value, its number first, so that no result buffer can be too
 // short.
 use calendars::Dated;
-use calendars::Length;
+use calendars::Position;
 ghost use mathlib.Core.Path.{_≡_};
-ghost use Rattle.calendar_rules.specs.Answers.{dayAnswer, dateAnswer, lengthAnswer};
-ghost use Rattle.calendars.specs.Paper.{datePaper, lengthPaper};
-ghost use Rattle.c_dates.specs.Fields.{dayFields, dateFields, lengthFields};
+ghost use Rattle.calendar_rules.specs.Answers.{dayAnswer, dateAnswer, positionAnswer};
+ghost use Rattle.calendars.specs.Paper.{datePaper, positionPaper};
+ghost use Rattle.c_dates.specs.Fields.{dayFields, dateFields, positionFields};
 
 // struct ijok_day
 #[repr(C)]
@@ -23,12 +23,20 @@ pub struct DateFields {
     pub day: u64,
 }
 
-// struct ijok_length
+// struct ijok_position
 #[repr(C)]
-pub struct LengthFields {
+pub struct PositionFields {
     pub number: u64,
+    pub kind: u64,
     pub days: u64,
 }
+
+// enum ijok_kind
+const NONE: u64 = 0;
+
+const MONTH: u64 = 1;
+
+const STRIP: u64 = 2;
 
 // The day of a date: by its one number, since an enum would be handed over through memory.
 #[no_mangle]
@@ -69,21 +77,36 @@ fn date_fields(answer: Dated) -> DateFields
     }
 }
 
-// The length of a position in a year.
+// What a position of a year is, and its length.
 #[no_mangle]
-pub extern "C" fn ijok_position_length(calendar: u64, year: i64, position: u64) -> LengthFields
-    ensures { λ r. ⌜ lengthFields r ≡ lengthAnswer calendar year position ⌝ }
+pub extern "C" fn ijok_position(calendar: u64, year: i64, position: u64) -> PositionFields
+    ensures { λ r. ⌜ r ≡ positionFields (positionAnswer calendar year position) ⌝ }
 {
-    length_fields(calendars::position_length(calendar, year, position))
+    position_fields(calendars::position_of(calendar, year, position))
 }
 
-fn length_fields(answer: Length) -> LengthFields
-    ensures { λ r. ⌜ lengthFields r ≡ lengthPaper answer ⌝ }
+fn position_fields(answer: Position) -> PositionFields
+    ensures { λ r. ⌜ r ≡ positionFields (positionPaper answer) ⌝ }
 {
     match answer {
-        Length::Days(days) => LengthFields { number: 0, days },
-        Length::Refused(why) => LengthFields {
+        Position::Month(days) => PositionFields {
+            number: 0,
+            kind: MONTH,
+            days,
+        },
+        Position::Strip(days) => PositionFields {
+            number: 0,
+            kind: STRIP,
+            days,
+        },
+        Position::None => PositionFields {
+            number: 0,
+            kind: NONE,
+            days: 0,
+        },
+        Position::Refused(why) => PositionFields {
             number: refusals::wide_number(why),
+            kind: NONE,
             days: 0,
         },
     }

@@ -247,5 +247,8 @@ limits = X.limits-answered
 pub ends : All Answered E.ends
 ends = X.ends-answered
 
-pub positions : All Answered E.positions
-positions = X.positions-answered
+pub strips : All Answered E.strips
+strips = X.strips-answered
+
+pub months : All Answered E.months
+months = X.months-answered

@@ -11,7 +11,7 @@ use Rattle.hebrew.specs.Hebrew.{leap, monthsIn, monthsBefore, moon, moonDay, mo
 use Rattle.hebrew.specs.Hebrew.{newYear as hebrewNewYear, lengths as hebrewLengths}
 use Rattle.calendar_rules.specs.Calendars.{republican, gregorian, lookup, calendar, Listed}
 use Rattle.calendar_rules.specs.Answers.{dayAnswer, dateAnswer, positionAnswer}
-use Rattle.calendar_rules.specs.Examples.{Answered, rows, limits, ends, positions}
+use Rattle.calendar_rules.specs.Examples.{Answered, rows, limits, ends, strips, months}
 use Rattle.calendar_rules.proofs.Listed.{listed-sound, sound-proper}
 
 pub rows-answered : All Answered rows
@@ -46,9 +46,13 @@ unfolding dayAnswer dateAnswer positionAnswer calendar lookup dayFor dateFor pos
 ends-answered =
     (refl, (refl, (refl, (refl, (refl, (end-day, (refl, (refl, (refl, tt)))))))))
 
-pub positions-answered : All Answered positions
+pub strips-answered : All Answered strips
+unfolding positionAnswer calendar lookup positionFor
+strips-answered =
+    (refl, (refl, (refl, (refl, (refl, (refl, (refl, (refl, (refl, (refl, (refl, (refl, (refl, (refl, (refl, (refl, tt))))))))))))))))
+
+pub months-answered : All Answered months
 unfolding dayAnswer positionAnswer calendar lookup dayFor positionFor total
     leap monthsIn monthsBefore moon moonDay moonHour secondApplies thirdApplies moved fourthApplies fourth hebrewNewYear ofTotal hebrewLengths
-positions-answered =
-    (refl, (refl, (refl, (refl, (refl, (refl, (refl, (refl, (refl, (refl, (refl, (refl, (refl, (refl, (refl, (refl, (refl, (refl, (refl, (refl, (refl, (refl,
-    (refl, (refl, (refl, (refl, tt))))))))))))))))))))))))))
+months-answered =
+    (refl, (refl, (refl, (refl, (refl, (refl, (refl, (refl, (refl, (refl, tt))))))))))

@@ -2,9 +2,9 @@
 use mathlib.Core.Path.{_≡_, refl, sym, ap, subst, _∙_}
 use mathlib.Core.Bool.{Bool, true, false, cond, not, _&&_, _||_, true≢false}
 use mathlib.Core.List.{List}
-use mathlib.Core.Logic.{_⊎_, inl, inr, _↔_}
+use mathlib.Core.Logic.{inl, inr, _↔_}
 use mathlib.Core.Option.{Option}
-use Prim.Native.Nat.{ℕ, suc, _+_, _-_, _≤_, _<_}
+use Prim.Native.Nat.{ℕ, _+_, _-_, _≤_}
 use native.Mathlib.Omega.{arith}
 use lib.Dec.{eqb, ltb}
 use lib.IntN.{ℤ, pos, negsuc, natAbs}
@@ -14,11 +14,11 @@ use borrow.Author.Tests.{eqb-true, eqb-false, eq-eqb, ne-eqb, ltb-true, ltb-fals
 use Rattle.basics.proofs.Cases.{both, neither, fails}
 use Rattle.counting.specs.Years.{yearsFrom}
 use Rattle.counting.specs.Answers.{Calendar, years, lastYear, yearOut, lengthIn, monthZero, abovePositions, noDaysThatYear, noMonth}
-use Rattle.counting.specs.Positions.{Kind, PositionAnswer, noPosition, noPositionAnswer, positionFor, Case, Is}
+use Rattle.counting.specs.Positions.{Kind, noPosition, noPositionAnswer, positionFor, Case, Is}
 use Rattle.counting.proofs.Positions as P
 use Rattle.counting.proofs.Rounds.{lengths-at}
 use Rattle.counting.proofs.Signs.{year-back}
-use Rattle.hebrew.specs.Hebrew.{leap, kinds}
+use Rattle.hebrew.specs.Hebrew.{leap}
 use Rattle.hebrew.proofs.SixKinds.{row-length}
 use Rattle.calendar_rules.specs.Calendars.{hebrew, lookup, calendar, Listed}
 use Rattle.calendar_rules.specs.Given.{IsListed, StripAt}
@@ -71,9 +71,9 @@ strip-number c m h = (to (eqb c 4) refl (eqb c 14) refl (ltb c 8) refl, from)
     to : (t : Bool) → eqb c 4 ≡ t → (u : Bool) → eqb c 14 ≡ u → (v : Bool) → ltb c 8 ≡ v
         → cond t (Option.some 9) (cond u (Option.some 19) (cond v (Option.some 13) Option.none)) ≡ Option.some m
         → StripAt c m
-    to true e u f v g r = let k : 9 ≡ m = cc in inr (inl (eqb-true c 4 e, sym k))
-    to false e true f v g r = let k : 19 ≡ m = cc in inr (inr (eqb-true c 14 f, sym k))
-    to false e false f true g r = let k : 13 ≡ m = cc in inl (h, omega (arith, ltb-true c 8 g), eqb-false c 4 e, sym k)
+    to true e u f v g r = let k : 9 ≡ m = cc in inr (inl (eqb-true c 4 e, omega arith))
+    to false e true f v g r = let k : 19 ≡ m = cc in inr (inr (eqb-true c 14 f, omega arith))
+    to false e false f true g r = let k : 13 ≡ m = cc in inl (h, omega (arith, ltb-true c 8 g), eqb-false c 4 e, omega arith)
     to false e false f false g r = let z : _≡_ {A = ℕ} 0 1 = cc in absurd (omega arith)
 
     from : StripAt c m → stripIf c ≡ Option.some m

@@ -96,10 +96,9 @@ ends =
     ∷ position 7 (pos 20000) 13 (stripOf 5)
     ∷ []
 
--- the strips, each with its neighbours; the Persian one is not at the year's end. Hebrew position 7 is a month of a leap year and none of a common one; 14 is none
--- of its positions
-abbrev pub positions : List Example
-positions =
+-- the strips, and positions beside them; the Persian one is not at the year's end
+abbrev pub strips : List Example
+strips =
     position 1 (pos 1) 12 (monthOf 30)
     ∷ position 1 (pos 1) 13 (stripOf 5)
     ∷ position 1 (pos 1) 14 (noPositionAnswer 3)
@@ -112,18 +111,23 @@ positions =
     ∷ position 5 (pos 3) 13 (stripOf 6)
     ∷ position 6 (pos 4) 13 (stripOf 5)
     ∷ position 7 (pos 3) 13 (stripOf 6)
-    ∷ position 11 (pos 2000) 2 (monthOf 29)
     ∷ position 14 (pos 156) 18 (monthOf 19)
     ∷ position 14 (pos 156) 19 (stripOf 5)
     ∷ position 14 (pos 157) 19 (stripOf 4)
     ∷ position 14 (pos 157) 20 (monthOf 19)
+    ∷ []
+
+-- calendars without strip. Hebrew position 7 is a month of a leap year and none of a common one, where date to day refuses it; 14 is no position
+abbrev pub months : List Example
+months =
+    position 11 (pos 2000) 2 (monthOf 29)
     ∷ position 15 (pos 1) 12 (monthOf 30)
     ∷ position 15 (pos 1) 13 (noPositionAnswer 3)
     ∷ position 18 (pos 1) 0 (noPositionAnswer 3)
     ∷ position 18 (pos 1) 6 (monthOf 29)
     ∷ position 18 (pos 1) 7 noneThen
+    ∷ date 18 (pos 1) 7 1 (noDayAnswer 3)
     ∷ position 18 (pos 1) 8 (monthOf 30)
     ∷ position 18 (pos 3) 7 (monthOf 29)
     ∷ position 18 (pos 3) 14 (noPositionAnswer 3)
-    ∷ date 18 (pos 1) 7 1 (noDayAnswer 3)
     ∷ []

@@ -5,10 +5,10 @@ use mathlib.Core.Logic.{_↔_}
 use mathlib.Core.Option.{Option}
 use Prim.Native.Nat.{ℕ, _≤_, _<_}
 use native.Mathlib.Omega.{arith}
-use lib.Dec.{eqb, ltb}
+use lib.Dec.{ltb}
 use lib.IntN.{ℤ}
-use borrow.Author.Tests.{eqb-false, ltb-false, lt-ltb, le-ltb, ne-eqb}
-use Rattle.counting.specs.Answers.{Calendar, DayAnswer, DateAnswer, lastDay, yearOut, lengthIn, noMonth, noDay, dayOut, after, ended, dayNumber}
+use borrow.Author.Tests.{ltb-false, lt-ltb, le-ltb}
+use Rattle.counting.specs.Answers.{Calendar, DayAnswer, DateAnswer, lastDay, yearOut, noMonth, noDay, dayOut, after, ended, dayNumber}
 use Rattle.counting.specs.Answers.{noDayAnswer, noDateAnswer, dayFor, dateFor, IsDate}
 use Rattle.counting.specs.Order.{Earlier}
 use Rattle.basics.proofs.Cases.{neither}

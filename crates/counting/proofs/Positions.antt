@@ -1,5 +1,5 @@
 -- The positions of a year: each answer is one of four cases; which dates a position has; and their lengths make up the year.
-use mathlib.Core.Path.{_≡_, refl, sym, ap, _∙_}
+use mathlib.Core.Path.{_≡_, refl, sym, ap, subst, _∙_}
 use mathlib.Core.Bool.{Bool, true, false, cond, _||_, true≢false}
 use mathlib.Core.Logic.{_⊎_, inl, inr, ⊎-elim, _↔_}
 use mathlib.Core.List.{List}
@@ -14,11 +14,11 @@ use lib.Signed.{ltZ}
 use borrow.Author.Tests.{eqb-true, eqb-false, eq-eqb, ne-eqb, ltb-true, ltb-false, lt-ltb, le-ltb}
 use Rattle.counting.specs.Calendar.{total, start}
 use Rattle.counting.specs.Years.{yearsFrom}
-use Rattle.counting.specs.Answers.{Calendar, years, DayAnswer, yearOut, lengthIn, monthZero, abovePositions, noDaysThatYear, noMonth, noDay, ended}
+use Rattle.counting.specs.Answers.{Calendar, years, DayAnswer, yearOut, lengthIn, abovePositions, noDaysThatYear, noMonth, noDay, ended}
 use Rattle.counting.specs.Answers.{dayOut, dayNumber, noDayAnswer, dayFor, IsDate}
 use Rattle.counting.specs.Positions.{Kind, PositionAnswer, noPosition, isStrip, kindIn, noPositionAnswer, positionFor, Case, Is, sumTo}
-use Rattle.basics.proofs.Cases.{cond-elim, neither}
-use Rattle.counting.proofs.Given.{passed, chosen}
+use Rattle.basics.proofs.Cases.{cond-elim, neither, holds}
+use Rattle.counting.proofs.Given.{chosen}
 use Rattle.counting.proofs.Rounds.{lengths-at}
 use Rattle.counting.proofs.Totals.{total-take-suc}
 
@@ -32,7 +32,6 @@ ofKind Kind.none = Case.none
 caseOf : PositionAnswer → Case
 caseOf x = cond (eqb (x .number) 0) (ofKind (x .kind)) Case.refused
 
--- an answer is in one case at most,
 is-case : (c : Case) (x : PositionAnswer) → Is c x → c ≡ caseOf x
 unfolding caseOf ofKind
 is-case Case.month x i = rw (i .0, i .1) refl
@@ -40,46 +39,78 @@ is-case Case.strip x i = rw (i .0, i .1) refl
 is-case Case.none x i = rw (i .0, i .1) refl
 is-case Case.refused x i = rw (ne-eqb (x .number) 0 (i .0)) refl
 
--- and in one: a refusal,
-refused : (k : ℕ) → ¬ (k ≡ 0) → Is (caseOf (noPositionAnswer k)) (noPositionAnswer k)
-unfolding caseOf
-refused k n = rw (ne-eqb k 0 n) (n, refl, refl)
+-- an answer that is in a case is in no other
+only : (c : Case) (x : PositionAnswer) → Is c x → (c : Case) × Is c x × ((c′ : Case) → Is c′ x → c′ ≡ c)
+only c x i = (c, i, λ c′ j. is-case c′ x j ∙ sym (is-case c x i))
 
 pub refused-case : (k : ℕ) → ¬ (k ≡ 0) → (c : Case) × Is c (noPositionAnswer k) × ((c′ : Case) → Is c′ (noPositionAnswer k) → c′ ≡ c)
-refused-case k n = (caseOf (noPositionAnswer k), refused k n, λ c i. is-case c (noPositionAnswer k) i)
+refused-case k n = only Case.refused (noPositionAnswer k) (n, refl, refl)
+
+-- the test of the strip
+is-strip : (o : Option ℕ) (m : ℕ) → (isStrip o m ≡ true) ↔ (o ≡ Option.some m)
+is-strip Option.none m = ((λ e. absurd (true≢false (sym e))), λ e. let z : _≡_ {A = ℕ} 0 1 = cc in absurd (omega arith))
+is-strip (Option.some p) m = ((λ e. ap Option.some (sym (eqb-true m p e))), λ e. let g : p ≡ m = cc in eq-eqb m p (sym g))
 
 module _ (K : Calendar) (y : ℤ) (m : ℕ) where
-  -- and what a calendar answers
-  in-case : Is (caseOf (positionFor K y m)) (positionFor K y m)
-  unfolding positionFor caseOf ofKind
-  in-case =
-      let P : PositionAnswer → Type 0 = λ x. Is (caseOf x) x in
-      cond-elim P (yearOut K y) _ _ (λ e. refused 2 (omega arith))
-      (λ e. cond-elim P (noPosition K y m) _ _ (λ e. refused 3 (omega arith)) (λ e. go (noDaysThatYear K y m) refl (isStrip (K .strip) m)))
-    where
-      go : (t : Bool) → noDaysThatYear K y m ≡ t → (u : Bool)
-          → let x : PositionAnswer = record { number = 0; kind = cond t Kind.none (cond u Kind.strip Kind.month); days = lengthIn K y m } in Is (caseOf x) x
-      go true e u = (refl, refl, eqb-true (lengthIn K y m) 0 e)
-      go false e true = (refl, refl, omega (arith, eqb-false (lengthIn K y m) 0 e))
-      go false e false = (refl, refl, omega (arith, eqb-false (lengthIn K y m) 0 e))
+  -- what is answered: where 2 or 3 applies, and where neither does
+  early : yearOut K y ≡ true → positionFor K y m ≡ noPositionAnswer 2
+  unfolding positionFor
+  early e = rw e refl
+
+  not-there : yearOut K y ≡ false → noPosition K y m ≡ true → positionFor K y m ≡ noPositionAnswer 3
+  unfolding positionFor
+  not-there o e = rw (o, e) refl
+
+  answered : yearOut K y ≡ false → noPosition K y m ≡ false
+      → (positionFor K y m .number ≡ 0) × (positionFor K y m .kind ≡ kindIn K y m) × (positionFor K y m .days ≡ lengthIn K y m)
+  unfolding positionFor
+  answered o n = rw (o, n) (refl, refl, refl)
+
+  -- the kinds
+  kind-none : noDaysThatYear K y m ≡ true → kindIn K y m ≡ Kind.none
+  kind-none e = rw e refl
+
+  kind-strip : noDaysThatYear K y m ≡ false → isStrip (K .strip) m ≡ true → kindIn K y m ≡ Kind.strip
+  kind-strip e f = rw (e, f) refl
+
+  kind-month : noDaysThatYear K y m ≡ false → isStrip (K .strip) m ≡ false → kindIn K y m ≡ Kind.month
+  kind-month e f = rw (e, f) refl
+
+  -- so each case, where it is
+  none-here : yearOut K y ≡ false → noPosition K y m ≡ false → noDaysThatYear K y m ≡ true → Is Case.none (positionFor K y m)
+  none-here o n e = let a = answered o n in (a .0, a .1 ∙ kind-none e, a .2 ∙ eqb-true (lengthIn K y m) 0 e)
+
+  strip-here : yearOut K y ≡ false → noPosition K y m ≡ false → noDaysThatYear K y m ≡ false → isStrip (K .strip) m ≡ true → Is Case.strip (positionFor K y m)
+  strip-here o n e f = let a = answered o n in (a .0, a .1 ∙ kind-strip e f, omega (arith, a .2, eqb-false (lengthIn K y m) 0 e))
+
+  month-here : yearOut K y ≡ false → noPosition K y m ≡ false → noDaysThatYear K y m ≡ false → isStrip (K .strip) m ≡ false → Is Case.month (positionFor K y m)
+  month-here o n e f = let a = answered o n in (a .0, a .1 ∙ kind-month e f, omega (arith, a .2, eqb-false (lengthIn K y m) 0 e))
 
   pub one-case : (c : Case) × Is c (positionFor K y m) × ((c′ : Case) → Is c′ (positionFor K y m) → c′ ≡ c)
-  one-case = (caseOf (positionFor K y m), in-case, λ c i. is-case c (positionFor K y m) i)
+  one-case = go (yearOut K y) refl (noPosition K y m) refl (noDaysThatYear K y m) refl (isStrip (K .strip) m) refl
+    where
+      OneCase : PositionAnswer → Type 0
+      OneCase x = (c : Case) × Is c x × ((c′ : Case) → Is c′ x → c′ ≡ c)
 
-  -- ---- what is known where the answer is no refusal
+      go : (t : Bool) → yearOut K y ≡ t → (u : Bool) → noPosition K y m ≡ u → (v : Bool) → noDaysThatYear K y m ≡ v → (w : Bool) → isStrip (K .strip) m ≡ w
+          → OneCase (positionFor K y m)
+      go true o u n v e w f = subst OneCase (sym (early o)) (refused-case 2 (omega arith))
+      go false o true n v e w f = subst OneCase (sym (not-there o n)) (refused-case 3 (omega arith))
+      go false o false n true e w f = only Case.none _ (none-here o n e)
+      go false o false n false e true f = only Case.strip _ (strip-here o n e f)
+      go false o false n false e false f = only Case.month _ (month-here o n e f)
 
-  passed-by : positionFor K y m .number ≡ 0
-      → (yearOut K y ≡ false) × (noPosition K y m ≡ false) × (positionFor K y m ≡ record { number = 0; kind = kindIn K y m; days = lengthIn K y m })
-  unfolding positionFor
-  passed-by e =
-      let through = passed (λ (x : PositionAnswer). x .number) in
-      let p = through (yearOut K y) (noPositionAnswer 2) _ (omega arith) e in
-      let q = through (noPosition K y m) (noPositionAnswer 3) _ (omega arith) (p .1) in
-      (p .0, q .0, rw (p .0, q .0) refl)
+  -- an answer that is no refusal
+  passed-by : positionFor K y m .number ≡ 0 → (yearOut K y ≡ false) × (noPosition K y m ≡ false)
+  passed-by e = go (yearOut K y) refl (noPosition K y m) refl
+    where
+      number : PositionAnswer → ℕ
+      number x = x .number
 
-  answered : yearOut K y ≡ false → noPosition K y m ≡ false → positionFor K y m ≡ record { number = 0; kind = kindIn K y m; days = lengthIn K y m }
-  unfolding positionFor
-  answered o n = rw (o, n) refl
+      go : (t : Bool) → yearOut K y ≡ t → (u : Bool) → noPosition K y m ≡ u → (t ≡ false) × (u ≡ false)
+      go true o u n = absurd (omega (arith, e, ap number (early o)))
+      go false o true n = absurd (omega (arith, e, ap number (not-there o n)))
+      go false o false n = (refl, refl)
 
   -- the position has days: it is a month or a strip
   abbrev pub HasDays : Type 0
@@ -89,54 +120,41 @@ module _ (K : Calendar) (y : ℤ) (m : ℕ) where
   has-days = (⊎-elim (λ i. to (i .0) (i .2)) (λ i. to (i .0) (i .2)), λ p. from (p .0) (neither (noPosition K y m) (noDaysThatYear K y m) (p .1)))
     where
       to : positionFor K y m .number ≡ 0 → 1 ≤ positionFor K y m .days → (yearOut K y ≡ false) × (noMonth K y m ≡ false)
-      to e h =
-          let p = passed-by e in
-          let d : positionFor K y m .days ≡ lengthIn K y m = ap (λ (x : PositionAnswer). x .days) (p .2) in
-          (p .0, rw (p .1, ne-eqb (lengthIn K y m) 0 (omega arith)) refl)
+      to e h = let p = passed-by e in (p .0, rw (p .1, ne-eqb (lengthIn K y m) 0 (omega (arith, answered (p .0) (p .1) .2))) refl)
 
-      which : (t : Bool) → noDaysThatYear K y m ≡ false → let x : PositionAnswer = record { number = 0; kind = cond t Kind.strip Kind.month; days = lengthIn K y m } in
-          Is Case.month x ⊎ Is Case.strip x
-      which true e = inr (refl, refl, omega (arith, eqb-false (lengthIn K y m) 0 e))
-      which false e = inl (refl, refl, omega (arith, eqb-false (lengthIn K y m) 0 e))
+      which : yearOut K y ≡ false → noPosition K y m ≡ false → noDaysThatYear K y m ≡ false → (t : Bool) → isStrip (K .strip) m ≡ t → HasDays
+      which o n e true f = inr (strip-here o n e f)
+      which o n e false f = inl (month-here o n e f)
 
       from : yearOut K y ≡ false → (noPosition K y m ≡ false) × (noDaysThatYear K y m ≡ false) → HasDays
-      from o n = rw (answered o (n .0), n .1) (which (isStrip (K .strip) m) (n .1))
+      from o n = which o (n .0) (n .1) (isStrip (K .strip) m) refl
 
   days-are : HasDays → positionFor K y m .days ≡ lengthIn K y m
-  days-are h = let p = passed-by (⊎-elim (λ i. i .0) (λ i. i .0) h) in ap (λ (x : PositionAnswer). x .days) (p .2)
+  days-are h = let p = passed-by (⊎-elim (λ i. i .0) (λ i. i .0) h) in answered (p .0) (p .1) .2
 
   -- the strip, exactly
   pub strip-exactly : Is Case.strip (positionFor K y m) ↔ ((yearOut K y ≡ false) × (noMonth K y m ≡ false) × (K .strip ≡ Option.some m))
-  strip-exactly = (to, λ p. from (p .0) (neither (noPosition K y m) (noDaysThatYear K y m) (p .1)) (p .2))
+  strip-exactly = (to, λ p. let n = neither (noPosition K y m) (noDaysThatYear K y m) (p .1) in strip-here (p .0) (n .0) (n .1) (is-strip (K .strip) m .1 (p .2)))
     where
-      the-strip : (o : Option ℕ) (t : Bool) → cond t Kind.none (cond (isStrip o m) Kind.strip Kind.month) ≡ Kind.strip → o ≡ Option.some m
-      the-strip o true e = let z : _≡_ {A = ℕ} 0 1 = cc in absurd (omega arith)
-      the-strip Option.none false e = let z : _≡_ {A = ℕ} 0 1 = cc in absurd (omega arith)
-      the-strip (Option.some p) false e = go (eqb m p) refl e
-        where
-          go : (u : Bool) → eqb m p ≡ u → cond u Kind.strip Kind.month ≡ Kind.strip → Option.some p ≡ Option.some m
-          go true f e = ap Option.some (sym (eqb-true m p f))
-          go false f e = let z : _≡_ {A = ℕ} 0 1 = cc in absurd (omega arith)
-
       to : Is Case.strip (positionFor K y m) → (yearOut K y ≡ false) × (noMonth K y m ≡ false) × (K .strip ≡ Option.some m)
       to i =
           let h = has-days .0 (inr i) in
-          (h .0, h .1, the-strip (K .strip) (noDaysThatYear K y m) (sym (ap (λ (x : PositionAnswer). x .kind) (passed-by (i .0) .2)) ∙ i .1))
-
-      from : yearOut K y ≡ false → (noPosition K y m ≡ false) × (noDaysThatYear K y m ≡ false) → K .strip ≡ Option.some m → Is Case.strip (positionFor K y m)
-      from o n s = rw (answered o (n .0), n .1, s, eq-eqb m m refl) (refl, refl, omega (arith, eqb-false (lengthIn K y m) 0 (n .1)))
+          let n = neither (noPosition K y m) (noDaysThatYear K y m) (h .1) in
+          (h .0, h .1, is-strip (K .strip) m .0 (holds (isStrip (K .strip) m) (λ f. clash (sym (month-here (h .0) (n .0) (n .1) f .1) ∙ i .1))))
+        where
+          clash : Kind.month ≡ Kind.strip → ⊥
+          clash e = let z : _≡_ {A = ℕ} 0 1 = cc in omega arith
 
   -- none, exactly
   pub none-exactly : Is Case.none (positionFor K y m) ↔ ((yearOut K y ≡ false) × (noPosition K y m ≡ false) × (lengthIn K y m ≡ 0))
   none-exactly = (
-    (λ i. let p = passed-by (i .0) in (p .0, p .1, sym (ap (λ (x : PositionAnswer). x .days) (p .2)) ∙ i .2)),
-    λ p. rw (answered (p .0) (p .1), eq-eqb (lengthIn K y m) 0 (p .2)) (refl, refl, p .2),
+    (λ i. let p = passed-by (i .0) in (p .0, p .1, sym (answered (p .0) (p .1) .2) ∙ i .2)),
+    λ p. none-here (p .0) (p .1) (eq-eqb (lengthIn K y m) 0 (p .2)),
   )
 
   pub none-answer : yearOut K y ≡ false → noPosition K y m ≡ false → noDaysThatYear K y m ≡ true
       → positionFor K y m ≡ record { number = 0; kind = Kind.none; days = 0 }
-  none-answer o n z =
-      answered o n ∙ λ i. record { number = 0; kind = cond (z i) Kind.none (cond (isStrip (K .strip) m) Kind.strip Kind.month); days = eqb-true (lengthIn K y m) 0 z i }
+  none-answer o n e = let i = none-here o n e in λ j. record { number = i .0 j; kind = i .1 j; days = i .2 j }
 
   -- ---- the dates of a position
 
@@ -199,13 +217,16 @@ module _ (K : Calendar) (y : ℤ) (m : ℕ) where
 
   -- a position from 1 on has its length; one above the positions has none
   pub days-in : yearOut K y ≡ false → 1 ≤ m → positionFor K y m .days ≡ lengthIn K y m
-  unfolding positionFor
-  days-in o h = rw (o, ne-eqb m 0 (omega arith)) (go (abovePositions K y m) refl)
+  days-in o h = go (abovePositions K y m) refl
     where
-      go : (t : Bool) → abovePositions K y m ≡ t
-          → cond t (noPositionAnswer 3) (record { number = 0; kind = kindIn K y m; days = lengthIn K y m }) .days ≡ lengthIn K y m
-      go true e = sym (List·getD-eq-default (K .lengths y) 0 (omega (arith, ltb-true (length (K .lengths y)) m e)))
-      go false e = refl
+      place : {t : Bool} → abovePositions K y m ≡ t → noPosition K y m ≡ t
+      place e = rw (ne-eqb m 0 (omega arith), e) refl
+
+      go : (t : Bool) → abovePositions K y m ≡ t → positionFor K y m .days ≡ lengthIn K y m
+      go true e =
+          ap (λ (x : PositionAnswer). x .days) (not-there o (place e))
+          ∙ sym (List·getD-eq-default (K .lengths y) 0 (omega (arith, ltb-true (length (K .lengths y)) m e)))
+      go false e = answered o (place e) .2
 
 module _ (K : Calendar) (y : ℤ) (o : yearOut K y ≡ false) where
   sum-to : (n : ℕ) → sumTo (λ m. positionFor K y m .days) n ≡ total (take n (K .lengths y))
