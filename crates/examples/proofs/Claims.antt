@@ -12,10 +12,11 @@ use Rattle.lines.specs.BandTest.{within, sumTo, peak, offsetOf, passes, first}
 use Rattle.basics.specs.Every.{every, All}
 use Rattle.lines.specs.Fit.{answerOf, fitOf}
 use Rattle.counting.specs.Answers.{years, dayFor, dateFor}
+use Rattle.counting.specs.Positions.{positionFor}
 use Rattle.counting.proofs.Starts.{start-same}
 use Rattle.hebrew.proofs.Calendar.{start-is}
 use Rattle.calendar_rules.specs.Calendars.{hebrew, lookup, calendar}
-use Rattle.calendar_rules.specs.Answers.{dayAnswer, dateAnswer}
+use Rattle.calendar_rules.specs.Answers.{dayAnswer, dateAnswer, positionAnswer}
 use Rattle.calendar_rules.proofs.Claims.{there-and-back}
 use Rattle.calendar_rules.proofs.HebrewYears.{hebrew-row}
 use Rattle.examples.specs.Starred.{starred, Answered}
@@ -41,5 +42,7 @@ unfolding dayAnswer calendar lookup dayFor years dayOf start total
 last-republican = there-and-back 7 (pos 14) 4 10 refl
 
 pub worked-answered : All Answered worked
-unfolding dayAnswer dateAnswer calendar lookup dayFor dateFor years dayOf start total
-worked-answered = (refl, (refl, (refl, (refl, (last-republican, (refl, tt))))))
+unfolding dayAnswer dateAnswer positionAnswer calendar lookup dayFor dateFor positionFor years dayOf start total
+    leap monthsIn monthsBefore moon moonDay moonHour secondApplies thirdApplies moved fourthApplies fourth newYear ofTotal hebrewLengths
+worked-answered =
+    (refl, (refl, (refl, (refl, (last-republican, (refl, (refl, (refl, (refl, (refl, (refl, (refl, (refl, (refl, (refl, tt)))))))))))))))

@@ -1,18 +1,20 @@
 -- The worked examples that docs/RULES.md marks with a star ("Worked examples"), as one table, over the definitions that the promises cite:
--- `dayAnswer` and `dateAnswer` of crate calendar_rules for date to day and day to date, `fitOf` of crate lines for fitting.
+-- `dayAnswer`, `dateAnswer` and `positionAnswer` of crate calendar_rules for date to day, day to date and a position, `fitOf` of crate lines for fitting.
 use mathlib.Core.Path.{_≡_}
 use mathlib.Core.List.{List, [], _∷_}
 use Prim.Native.Nat.{ℕ}
 use lib.IntN.{ℤ, pos, negsuc}
 use Rattle.lines.specs.Fit.{Answer, line, refused, fitOf}
 use Rattle.counting.specs.Answers.{DayAnswer, DateAnswer, noDayAnswer}
-use Rattle.calendar_rules.specs.Answers.{dayAnswer, dateAnswer}
+use Rattle.counting.specs.Positions.{PositionAnswer}
+use Rattle.calendar_rules.specs.Answers.{dayAnswer, dateAnswer, positionAnswer}
 use Rattle.calendar_rules.specs.Examples.{is}
 
--- a question and its answer: the day of a date (calendar, year, month, day), the date of a day, or the line of a code
+-- a question and its answer: the day of a date (calendar, year, month, day), the date of a day, a position of a year, or the line of a code
 pub data Example : Type 0 where
   date : ℕ → ℤ → ℕ → ℕ → DayAnswer → Example
   day : ℕ → ℕ → DateAnswer → Example
+  position : ℕ → ℤ → ℕ → PositionAnswer → Example
   code : List ℕ → Answer → Example
 
 abbrev pub starred : List Example
@@ -47,4 +49,5 @@ starred =
 abbrev pub Answered : Example → Type 0
 Answered (date c y m d a) = dayAnswer c y m d ≡ a
 Answered (day c n a) = dateAnswer c n ≡ a
+Answered (position c y m a) = positionAnswer c y m ≡ a
 Answered (code ls a) = fitOf ls ≡ a

@@ -55,6 +55,7 @@ fn show_positions(good: &mut bool) {
     show::position_of(good, 14, 156, 19);
     show::position_of(good, 14, 157, 19);
     show::position_of(good, 14, 157, 20);
+    show::position_of(good, 15, 1879, 12);
     show::position_of(good, 15, 1879, 13);
     show::position_of(good, 18, 5784, 7);
     show::position_of(good, 18, 5785, 7);
