@@ -170,7 +170,7 @@ one-case c y m = go (calendar c)
 abbrev pub HasDays : ℕ → ℤ → ℕ → Type 0
 HasDays c y m = Is Case.month (positionAnswer c y m) ⊎ Is Case.strip (positionAnswer c y m)
 
--- a date exists exactly where its position has days and its day is from 1 to the length
+-- a date exists (`IsDate` of crate counting) exactly where its position has days and its day is from 1 to the length
 pub dates : {c : ℕ} {K : Calendar} → Listed c K → (y : ℤ) (m d : ℕ) → IsDate K y m d ↔ (HasDays c y m × (1 ≤ d) × (d ≤ positionAnswer c y m .days))
 dates {c} {K} l y m d = rw (position-asked l y m) (C.dates K y m d)
 
@@ -200,7 +200,7 @@ none-exactly c y m = (to, λ x. rw (x .0) (rw (position-asked P.listed-18 y m) (
         let h = P.hebrew-none y m .0 (subst (λ (C : Calendar). Is Case.none (positionFor C y m)) (P.is-hebrew (l .1) e) j) in
         (e, h .0, h .1)
 
--- a strip is exactly what the request lists (`StripAt` of specs/Given.antt), in every year that the calendar has
+-- a strip is exactly a position that the rules list (`StripAt` of specs/Given.antt), in every year that the calendar has
 pub strip-exactly : {c : ℕ} {K : Calendar} → Listed c K → (y : ℤ) (m : ℕ) → Is Case.strip (positionAnswer c y m) ↔ ((yearOut K y ≡ false) × StripAt c m)
 strip-exactly l y m = rw (position-asked l y m) (P.strips l y m)
 

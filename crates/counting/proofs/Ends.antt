@@ -13,7 +13,7 @@ use Rattle.counting.specs.Answers.{noDayAnswer, noDateAnswer, dayFor, da
 use Rattle.counting.specs.Order.{Earlier}
 use Rattle.basics.proofs.Cases.{neither}
 use Rattle.counting.proofs.Given.{is-after, passed, chosen}
-use Rattle.counting.proofs.Rounds.{Stands, stands, stand, accepted, ordered}
+use Rattle.counting.proofs.Rounds.{date-stands, stand, accepted, ordered}
 
 is-ended : {o : Option ℕ} {e n : ℕ} → o ≡ Option.some e → e < n → after o n ≡ true
 is-ended {o} {e} {n} f h = ap (λ (x : Option ℕ). after x n) f ∙ lt-ltb e n h
@@ -24,9 +24,6 @@ not-17 true n e = omega arith
 not-17 false n e = omega arith
 
 module _ (K : Calendar) (y : ℤ) (m d : ℕ) where
-  pub date-stands : IsDate K y m d → Stands K y m d (dayNumber K y m d)
-  date-stands x = stands K y m d (x .year-in) (x .month-in) (x .day-in)
-
   pub ended-date : (dayFor K y m d .number ≡ 17) ↔ ((e : ℕ) × (K .end ≡ Option.some e) × IsDate K y m d × (e < dayNumber K y m d))
   unfolding dayFor
   ended-date = (to, from)
@@ -42,7 +39,7 @@ module _ (K : Calendar) (y : ℤ) (m d : ℕ) where
           (t .0, t .1, record { year-in = q .0; month-in = r .0; day-in = s .0 }, t .2)
 
       from : (e : ℕ) × (K .end ≡ Option.some e) × IsDate K y m d × (e < dayNumber K y m d) → dayFor K y m d .number ≡ 17
-      from x = ap (λ (a : DayAnswer). a .number) (stand K y m d (dayNumber K y m d) (date-stands (x .2))) ∙ rw (is-ended (x .1) (x .3)) refl
+      from x = ap (λ (a : DayAnswer). a .number) (stand K y m d (dayNumber K y m d) (date-stands K y m d (x .2))) ∙ rw (is-ended (x .1) (x .3)) refl
 
 -- the same by the date of the end
 pub after-end : (K : Calendar) (e : ℕ) → K .end ≡ Option.some e

@@ -1,6 +1,6 @@
 -- What the answers of a calendar have to do with counting and with each other, for any calendar in which every year has days: counting from the first day
 -- reaches the date, each way undoes the other, and dates in order have days in order.
-use mathlib.Core.Path.{_≡_, refl, sym, ap, _∙_}
+use mathlib.Core.Path.{_≡_, refl, sym, ap, subst, _∙_}
 use mathlib.Core.Bool.{Bool, true, false, cond, _||_}
 use mathlib.Core.Logic.{_↔_}
 use mathlib.Core.Option.{Option}
@@ -16,7 +16,7 @@ use Rattle.counting.specs.Calendar.{total, Date, Valid, len, firstFrom, 
 use Rattle.counting.specs.Calendar.Before.{by-year as before-by-year, by-month as before-by-month, by-day as before-by-day}
 use Rattle.counting.specs.Years.{yearAt, yearsFrom}
 use Rattle.counting.specs.Answers.{Calendar, years, DayAnswer, DateAnswer, lastDay, lastYear, yearOut, lengthIn, monthZero, noDaysThatYear, noMonth}
-use Rattle.counting.specs.Answers.{noDay, dayOut, after, ended, dayNumber, dateOn, dated, noDayAnswer, noDateAnswer, dayFor, dateFor, lastWith, lastOf}
+use Rattle.counting.specs.Answers.{noDay, dayOut, after, ended, dayNumber, dateOn, dated, noDayAnswer, noDateAnswer, dayFor, dateFor, IsDate, lastWith, lastOf}
 use Rattle.counting.specs.Order.{Earlier}
 use Rattle.counting.specs.Order.Earlier.{by-year, by-month, by-day}
 use Rattle.basics.proofs.Cases.{neither}
@@ -103,21 +103,35 @@ module _ (K : Calendar) where
           number = refl;
         }
 
-    -- and only there; then its day is what is tried
+    pub date-stands : IsDate K y m d → Stands K y m d (dayNumber K y m d)
+    date-stands x = stands (x .year-in) (x .month-in) (x .day-in)
+
+    -- and only there;
+    pub exists : {n : ℕ} → Stands K y m d n → IsDate K y m d
+    exists a =
+        let l = length-is K y m ∙ ap (λ (ls : List ℕ). len ls m) (lengths-at K y (a .from-first)) in
+        let v = a .valid in
+        record {
+          year-in = rw (a .from-first, a .to-last) refl;
+          month-in =
+              rw (
+                no-month K y m,
+                ne-eqb m 0 (omega (arith, v .month-from-1)),
+                ne-eqb (lengthIn K y m) 0 (omega (arith, v .day-from-1, v .day-in-month)),
+              ) refl;
+          day-in = rw (ne-eqb d 0 (omega (arith, v .day-from-1)), le-ltb (lengthIn K y m) d (omega (arith, v .day-in-month))) refl;
+        }
+
+    -- then its day is what is tried
     pub stand : (n : ℕ) → Stands K y m d n
         → dayFor K y m d ≡ cond (ended K n) (noDayAnswer 17) (cond (ltb lastDay n) (noDayAnswer 5) (record { number = 0; day = n }))
     unfolding dayFor
     stand n a =
-        let l = length-is K y m ∙ ap (λ (ls : List ℕ). len ls m) (lengths-at K y (a .from-first)) in
-        let v = a .valid in
+        let x = exists a in
         rw (
-          no-month K y m,
-          a .from-first,
-          a .to-last,
-          ne-eqb m 0 (omega (arith, v .month-from-1)),
-          ne-eqb (lengthIn K y m) 0 (omega (arith, v .day-from-1, v .day-in-month)),
-          ne-eqb d 0 (omega (arith, v .day-from-1)),
-          le-ltb (lengthIn K y m) d (omega (arith, v .day-in-month)),
+          x .year-in,
+          x .month-in,
+          x .day-in,
           le-ltb (dayNumber K y m d) (K .firstDay) (omega arith),
           or-false (ltb lastDay (dayNumber K y m d)),
           a .number,
@@ -178,16 +192,35 @@ module _ (K : Calendar) (has-days : (i : ℕ) → 1 ≤ total (years K i)) where
       answered K n (r .0) (a .small) ∙ rw (r .1, year-back (K .firstYear) y (a .stands .from-first)) refl
 
   -- and a day's date has that day, if its year is not above the last
-  pub back-and-there : (n : ℕ) → K .firstDay ≤ n → n ≤ lastOf K → ltZ lastYear (dated K (dateOn K n) .year) ≡ false
-      → let x = dated K (dateOn K n) in Accepted K (x .year) (x .month) (x .day) n
-  back-and-there n f k l =
+  pub on-day : (n : ℕ) → K .firstDay ≤ n → ltZ lastYear (dated K (dateOn K n) .year) ≡ false
+      → let x = dated K (dateOn K n) in Stands K (x .year) (x .month) (x .day) n
+  on-day n f l =
       let D = dateOn K n in
       let g = counted (years K) has-days (n - K .firstDay) in
       let i = place-back (K .firstYear) (D .year) in
-      record {
-        stands = record { from-first = not-before (K .firstYear) (D .year); to-last = l; valid = rw i (g .0); number = rw i (omega (arith, g .1)) };
-        small = k;
-      }
+      record { from-first = not-before (K .firstYear) (D .year); to-last = l; valid = rw i (g .0); number = rw i (omega (arith, g .1)) }
+
+  pub back-and-there : (n : ℕ) → K .firstDay ≤ n → n ≤ lastOf K → ltZ lastYear (dated K (dateOn K n) .year) ≡ false
+      → let x = dated K (dateOn K n) in Accepted K (x .year) (x .month) (x .day) n
+  back-and-there n f k l = record { stands = on-day n f l; small = k }
+
+  -- a date exists exactly where counting reaches it, in a year not above the last
+  pub exists-counted : (y : ℤ) (m d : ℕ) → IsDate K y m d
+      ↔ ((ltZ lastYear y ≡ false) × ((n : ℕ) × (K .firstDay ≤ n) × (dated K (dateOn K n) ≡ record { number = 0; year = y; month = m; day = d })))
+  exists-counted y m d = (to, from)
+    where
+      to : IsDate K y m d → (ltZ lastYear y ≡ false) × ((n : ℕ) × (K .firstDay ≤ n) × (dated K (dateOn K n) ≡ record { number = 0; year = y; month = m; day = d }))
+      to x =
+          let a = date-stands K y m d x in
+          let r = reached y m d (dayNumber K y m d) a in
+          (a .to-last, (dayNumber K y m d, r .0, rw (r .1, year-back (K .firstYear) y (a .from-first)) refl))
+
+      from : (ltZ lastYear y ≡ false) × ((n : ℕ) × (K .firstDay ≤ n) × (dated K (dateOn K n) ≡ record { number = 0; year = y; month = m; day = d }))
+          → IsDate K y m d
+      from p =
+          let e = p .1 .2 in
+          let l = ap (λ (a : DateAnswer). ltZ lastYear (a .year)) e ∙ p .0 in
+          subst (λ (a : DateAnswer). IsDate K (a .year) (a .month) (a .day)) e (exists K _ _ _ (on-day (p .1 .0) (p .1 .1) l))
 
 -- where each way undoes the other, a date is given a day exactly where a day is given that date
 pub given-exactly : (day : ℤ → ℕ → ℕ → DayAnswer) (date : ℕ → DateAnswer)
