@@ -18,7 +18,7 @@ use Rattle.counting.specs.Calendar.{Date, total, start, next}
 use Rattle.counting.specs.Years.{yearsFrom}
 use Rattle.counting.specs.Answers.{Calendar, years, DayAnswer, noDayAnswer, DateAnswer, lastDay, yearOut, dateOn, dated, dayFor, dateFor, IsDate}
 use Rattle.counting.specs.Answers.{lastWith, lastOf, Proper}
-use Rattle.counting.specs.Positions.{PositionAnswer, noPositionAnswer, positionFor, Case, Is, sumTo}
+use Rattle.counting.specs.Positions.{PositionAnswer, noPositionAnswer, positionFor, Case, Is, OneCase, HasDays, sumTo}
 use Rattle.counting.specs.Order.{Earlier}
 use Rattle.counting.specs.Given.{Given, dateOrder, dayOrder, positionOrder, OfDate, OfDay, OfPosition}
 use Rattle.counting.proofs.Given as G
@@ -155,27 +155,20 @@ ordered c y m d y′ m′ d′ e e′ =
 -- ---- the positions of a year
 
 -- a position is in one case, a month or a strip or none or refused, and in no other
-pub one-case : (c : ℕ) (y : ℤ) (m : ℕ) → (x : Case) × Is x (positionAnswer c y m) × ((x′ : Case) → Is x′ (positionAnswer c y m) → x′ ≡ x)
+pub one-case : (c : ℕ) (y : ℤ) (m : ℕ) → OneCase (positionAnswer c y m)
 unfolding positionAnswer
 one-case c y m = go (calendar c)
   where
-    OneCase : PositionAnswer → Type 0
-    OneCase a = (x : Case) × Is x a × ((x′ : Case) → Is x′ a → x′ ≡ x)
-
     go : (o : Option Calendar) → OneCase (ofListed o (noPositionAnswer 1) (λ K. positionFor K y m))
     go Option.none = Q.refused-case 1 (omega arith)
     go (Option.some K) = C.one-case K y m
 
--- it has days where it is a month or a strip
-abbrev pub HasDays : ℕ → ℤ → ℕ → Type 0
-HasDays c y m = Is Case.month (positionAnswer c y m) ⊎ Is Case.strip (positionAnswer c y m)
-
--- a date exists (`IsDate` of crate counting) exactly where its position has days and its day is from 1 to the length
-pub dates : {c : ℕ} {K : Calendar} → Listed c K → (y : ℤ) (m d : ℕ) → IsDate K y m d ↔ (HasDays c y m × (1 ≤ d) × (d ≤ positionAnswer c y m .days))
+-- a date exists (`IsDate` of crate counting) exactly where its position has days, as a month or a strip, and its day is from 1 to the length
+pub dates : {c : ℕ} {K : Calendar} → Listed c K → (y : ℤ) (m d : ℕ) → IsDate K y m d ↔ (HasDays (positionAnswer c y m) × (1 ≤ d) × (d ≤ positionAnswer c y m .days))
 dates {c} {K} l y m d = rw (position-asked l y m) (C.dates K y m d)
 
 -- date to day refuses 4 for the other days of such a position, and for no more,
-pub other-days : (c : ℕ) (y : ℤ) (m : ℕ) → HasDays c y m → (d : ℕ) → (dayAnswer c y m d .number ≡ 4) ↔ ((d ≡ 0) ⊎ (positionAnswer c y m .days < d))
+pub other-days : (c : ℕ) (y : ℤ) (m : ℕ) → HasDays (positionAnswer c y m) → (d : ℕ) → (dayAnswer c y m d .number ≡ 4) ↔ ((d ≡ 0) ⊎ (positionAnswer c y m .days < d))
 other-days c y m h d =
     let l = position-listed c y m (⊎-elim (λ i. i .0) (λ i. i .0) h) in
     let a = position-asked (l .1) y m in

@@ -16,7 +16,7 @@ use Rattle.counting.specs.Calendar.{total, start}
 use Rattle.counting.specs.Years.{yearsFrom}
 use Rattle.counting.specs.Answers.{Calendar, years, DayAnswer, yearOut, lengthIn, abovePositions, noDaysThatYear, noMonth, noDay, ended}
 use Rattle.counting.specs.Answers.{dayOut, dayNumber, noDayAnswer, dayFor, IsDate}
-use Rattle.counting.specs.Positions.{Kind, PositionAnswer, noPosition, isStrip, kindIn, noPositionAnswer, positionFor, Case, Is, sumTo}
+use Rattle.counting.specs.Positions.{Kind, PositionAnswer, noPosition, isStrip, kindIn, noPositionAnswer, positionFor, Case, Is, OneCase, HasDays, sumTo}
 use Rattle.basics.proofs.Cases.{cond-elim, neither, holds}
 use Rattle.counting.proofs.Given.{chosen}
 use Rattle.counting.proofs.Rounds.{lengths-at}
@@ -40,10 +40,10 @@ is-case Case.none x i = rw (i .0, i .1) refl
 is-case Case.refused x i = rw (ne-eqb (x .number) 0 (i .0)) refl
 
 -- an answer that is in a case is in no other
-only : (c : Case) (x : PositionAnswer) → Is c x → (c : Case) × Is c x × ((c′ : Case) → Is c′ x → c′ ≡ c)
+only : (c : Case) (x : PositionAnswer) → Is c x → OneCase x
 only c x i = (c, i, λ c′ j. is-case c′ x j ∙ sym (is-case c x i))
 
-pub refused-case : (k : ℕ) → ¬ (k ≡ 0) → (c : Case) × Is c (noPositionAnswer k) × ((c′ : Case) → Is c′ (noPositionAnswer k) → c′ ≡ c)
+pub refused-case : (k : ℕ) → ¬ (k ≡ 0) → OneCase (noPositionAnswer k)
 refused-case k n = only Case.refused (noPositionAnswer k) (n, refl, refl)
 
 -- the test of the strip
@@ -86,12 +86,9 @@ module _ (K : Calendar) (y : ℤ) (m : ℕ) where
   month-here : yearOut K y ≡ false → noPosition K y m ≡ false → noDaysThatYear K y m ≡ false → isStrip (K .strip) m ≡ false → Is Case.month (positionFor K y m)
   month-here o n e f = let a = answered o n in (a .0, a .1 ∙ kind-month e f, omega (arith, a .2, eqb-false (lengthIn K y m) 0 e))
 
-  pub one-case : (c : Case) × Is c (positionFor K y m) × ((c′ : Case) → Is c′ (positionFor K y m) → c′ ≡ c)
+  pub one-case : OneCase (positionFor K y m)
   one-case = go (yearOut K y) refl (noPosition K y m) refl (noDaysThatYear K y m) refl (isStrip (K .strip) m) refl
     where
-      OneCase : PositionAnswer → Type 0
-      OneCase x = (c : Case) × Is c x × ((c′ : Case) → Is c′ x → c′ ≡ c)
-
       go : (t : Bool) → yearOut K y ≡ t → (u : Bool) → noPosition K y m ≡ u → (v : Bool) → noDaysThatYear K y m ≡ v → (w : Bool) → isStrip (K .strip) m ≡ w
           → OneCase (positionFor K y m)
       go true o u n v e w f = subst OneCase (sym (early o)) (refused-case 2 (omega arith))
@@ -112,24 +109,21 @@ module _ (K : Calendar) (y : ℤ) (m : ℕ) where
       go false o true n = absurd (omega (arith, e, ap number (not-there o n)))
       go false o false n = (refl, refl)
 
-  -- the position has days: it is a month or a strip
-  abbrev pub HasDays : Type 0
-  HasDays = Is Case.month (positionFor K y m) ⊎ Is Case.strip (positionFor K y m)
-
-  pub has-days : HasDays ↔ ((yearOut K y ≡ false) × (noMonth K y m ≡ false))
+  -- the position has days
+  pub has-days : HasDays (positionFor K y m) ↔ ((yearOut K y ≡ false) × (noMonth K y m ≡ false))
   has-days = (⊎-elim (λ i. to (i .0) (i .2)) (λ i. to (i .0) (i .2)), λ p. from (p .0) (neither (noPosition K y m) (noDaysThatYear K y m) (p .1)))
     where
       to : positionFor K y m .number ≡ 0 → 1 ≤ positionFor K y m .days → (yearOut K y ≡ false) × (noMonth K y m ≡ false)
       to e h = let p = passed-by e in (p .0, rw (p .1, ne-eqb (lengthIn K y m) 0 (omega (arith, answered (p .0) (p .1) .2))) refl)
 
-      which : yearOut K y ≡ false → noPosition K y m ≡ false → noDaysThatYear K y m ≡ false → (t : Bool) → isStrip (K .strip) m ≡ t → HasDays
+      which : yearOut K y ≡ false → noPosition K y m ≡ false → noDaysThatYear K y m ≡ false → (t : Bool) → isStrip (K .strip) m ≡ t → HasDays (positionFor K y m)
       which o n e true f = inr (strip-here o n e f)
       which o n e false f = inl (month-here o n e f)
 
-      from : yearOut K y ≡ false → (noPosition K y m ≡ false) × (noDaysThatYear K y m ≡ false) → HasDays
+      from : yearOut K y ≡ false → (noPosition K y m ≡ false) × (noDaysThatYear K y m ≡ false) → HasDays (positionFor K y m)
       from o n = which o (n .0) (n .1) (isStrip (K .strip) m) refl
 
-  days-are : HasDays → positionFor K y m .days ≡ lengthIn K y m
+  days-are : HasDays (positionFor K y m) → positionFor K y m .days ≡ lengthIn K y m
   days-are h = let p = passed-by (⊎-elim (λ i. i .0) (λ i. i .0) h) in answered (p .0) (p .1) .2
 
   -- the strip, exactly
@@ -159,16 +153,16 @@ module _ (K : Calendar) (y : ℤ) (m : ℕ) where
   -- ---- the dates of a position
 
   -- a date exists exactly where its position has days and its day is one of them
-  pub dates : (d : ℕ) → IsDate K y m d ↔ (HasDays × (1 ≤ d) × (d ≤ positionFor K y m .days))
+  pub dates : (d : ℕ) → IsDate K y m d ↔ (HasDays (positionFor K y m) × (1 ≤ d) × (d ≤ positionFor K y m .days))
   dates d = (to, from)
     where
-      to : IsDate K y m d → HasDays × (1 ≤ d) × (d ≤ positionFor K y m .days)
+      to : IsDate K y m d → HasDays (positionFor K y m) × (1 ≤ d) × (d ≤ positionFor K y m .days)
       to x =
           let h = has-days .1 (x .year-in, x .month-in) in
           let D = neither (eqb d 0) (ltb (lengthIn K y m) d) (x .day-in) in
           (h, omega (arith, eqb-false d 0 (D .0)), omega (arith, ltb-false (lengthIn K y m) d (D .1), days-are h))
 
-      from : HasDays × (1 ≤ d) × (d ≤ positionFor K y m .days) → IsDate K y m d
+      from : HasDays (positionFor K y m) × (1 ≤ d) × (d ≤ positionFor K y m .days) → IsDate K y m d
       from p =
           let h = has-days .0 (p .0) in
           let l : d ≤ lengthIn K y m = omega (arith, p .2, days-are (p .0)) in
@@ -188,7 +182,7 @@ module _ (K : Calendar) (y : ℤ) (m : ℕ) where
       cond-elim Q (ended K n) _ _ (λ e f. omega arith) (λ e. cond-elim Q (dayOut K n) _ _ (λ e f. omega arith) (λ e f. omega arith))
 
   -- any other of its days is refused 4,
-  pub other-days : HasDays → (d : ℕ) → (dayFor K y m d .number ≡ 4) ↔ ((d ≡ 0) ⊎ (positionFor K y m .days < d))
+  pub other-days : HasDays (positionFor K y m) → (d : ℕ) → (dayFor K y m d .number ≡ 4) ↔ ((d ≡ 0) ⊎ (positionFor K y m .days < d))
   unfolding dayFor after-4
   other-days p d = rw (has-days .0 p .0, has-days .0 p .1) (to, from)
     where

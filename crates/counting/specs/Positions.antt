@@ -3,6 +3,7 @@
 use Prim.Native.Nat.{ℕ, zero, suc, _+_, _≤_}
 use mathlib.Core.Path.{_≡_}
 use mathlib.Core.Bool.{Bool, false, cond, _||_}
+use mathlib.Core.Logic.{_⊎_}
 use mathlib.Core.Option.{Option}
 use lib.Dec.{eqb}
 use lib.IntN.{ℤ}
@@ -53,6 +54,14 @@ Is Case.month x = (x .number ≡ 0) × (x .kind ≡ Kind.month) × (1 ≤ x .day
 Is Case.strip x = (x .number ≡ 0) × (x .kind ≡ Kind.strip) × (1 ≤ x .days)
 Is Case.none x = (x .number ≡ 0) × (x .kind ≡ Kind.none) × (x .days ≡ 0)
 Is Case.refused x = ¬ (x .number ≡ 0) × (x .kind ≡ Kind.none) × (x .days ≡ 0)
+
+-- in one case, and in no other
+abbrev pub OneCase : PositionAnswer → Type 0
+OneCase x = (c : Case) × Is c x × ((c′ : Case) → Is c′ x → c′ ≡ c)
+
+-- a month or a strip
+abbrev pub HasDays : PositionAnswer → Type 0
+HasDays x = Is Case.month x ⊎ Is Case.strip x
 
 -- f 1 + .. + f n
 unfoldable pub sumTo : (ℕ → ℕ) → ℕ → ℕ
