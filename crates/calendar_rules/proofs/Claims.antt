@@ -5,7 +5,7 @@
 -- What counting's claims page shows of any calendar in which every year has days holds of each that is listed; here it is said by number.
 use mathlib.Core.Path.{_≡_, refl, sym, ap, subst, _∙_}
 use mathlib.Core.Bool.{Bool, true, false, cond}
-use mathlib.Core.Logic.{_⊎_, ⊎-elim, _↔_}
+use mathlib.Core.Logic.{_⊎_, inl, inr, ⊎-elim, _↔_}
 use mathlib.Core.List.{_∷_}
 use mathlib.Core.Option.{Option}
 use Prim.Native.Nat.{ℕ, suc, _+_, _≤_, _<_}
@@ -18,7 +18,7 @@ use Rattle.counting.specs.Calendar.{Date, total, start, next}
 use Rattle.counting.specs.Years.{yearsFrom}
 use Rattle.counting.specs.Answers.{Calendar, years, DayAnswer, noDayAnswer, DateAnswer, lastDay, yearOut, dateOn, dated, dayFor, dateFor, IsDate}
 use Rattle.counting.specs.Answers.{lastWith, lastOf, Proper}
-use Rattle.counting.specs.Positions.{PositionAnswer, noPositionAnswer, positionFor, Case, Is, OneCase, HasDays, sumTo}
+use Rattle.counting.specs.Positions.{Kind, PositionAnswer, noPositionAnswer, positionFor, Case, Is, OneCase, HasDays, sumTo}
 use Rattle.counting.specs.Order.{Earlier}
 use Rattle.counting.specs.Given.{Given, dateOrder, dayOrder, positionOrder, OfDate, OfDay, OfPosition}
 use Rattle.counting.proofs.Given as G
@@ -162,6 +162,16 @@ one-case c y m = go (calendar c)
     go : (o : Option Calendar) → OneCase (ofListed o (noPositionAnswer 1) (λ K. positionFor K y m))
     go Option.none = Q.refused-case 1 (omega arith)
     go (Option.some K) = C.one-case K y m
+
+-- it has days where it is not none
+pub has-days : (c : ℕ) (y : ℤ) (m : ℕ) → ¬ (positionAnswer c y m .kind ≡ Kind.none) → HasDays (positionAnswer c y m)
+has-days c y m n = let o = one-case c y m in go (o .0) (o .1)
+  where
+    go : (x : Case) → Is x (positionAnswer c y m) → HasDays (positionAnswer c y m)
+    go Case.month i = inl i
+    go Case.strip i = inr i
+    go Case.none i = absurd (n (i .1))
+    go Case.refused i = absurd (n (i .1))
 
 -- a date exists (`IsDate` of crate counting) exactly where its position has days, as a month or a strip, and its day is from 1 to the length
 pub dates : {c : ℕ} {K : Calendar} → Listed c K → (y : ℤ) (m d : ℕ) → IsDate K y m d ↔ (HasDays (positionAnswer c y m) × (1 ≤ d) × (d ≤ positionAnswer c y m .days))
