@@ -41,11 +41,14 @@ pub fn flush(sink: Sink, out: &[u8]) -> Sink
     Sink::Failed
 }
 
-// The end of the output: says it if a write failed.
-pub fn end(program: &[u8], sink: Sink) {
-    if !is_good(sink) {
-        stdio::fail(program, b"write", b"standard output");
+// The end of the output: whether all was written, and if not, it is said.
+pub fn end(program: &[u8], sink: Sink) -> bool
+    ensures { λ r. ⌜ r ≡ good sink ⌝ }
+{
+    if is_good(sink) {
+        return true;
     }
+    stdio::fail(program, b"write", b"standard output")
 }
 
 pub fn put(sink: Sink, byte: u8, out: &mut [u8]) -> Sink
