@@ -2,6 +2,8 @@
 // (`numbering`, `dating`, `measuring`); here it becomes an answer.
 use refusals::Refusal;
 ghost use mathlib.Core.Path.{_≡_};
+ghost use mathlib.Core.Bool.{not};
+ghost use lib.Dec.{eqb};
 ghost use Rattle.calendar_rules.specs.Answers.{dayAnswer, dateAnswer, positionAnswer};
 ghost use Rattle.asking.specs.Steps.{noneNumber, noneThere};
 ghost use Rattle.calendars.specs.Paper.{dayPaper, datePaper, positionPaper};
@@ -86,6 +88,30 @@ pub fn position_of(calendar: u64, year: i64, position: u64) -> Position
         return Position::Strip(days);
     }
     Position::Month(days)
+}
+
+// The days of a position; 0 where it is none or refused.
+pub fn days_of(answer: Position) -> u64
+    ensures { λ r. ⌜ r ≡ positionPaper answer .days ⌝ }
+{
+    match answer {
+        Position::Month(days) => days,
+        Position::Strip(days) => days,
+        Position::None => 0,
+        Position::Refused(_) => 0,
+    }
+}
+
+// Whether there is no such position.
+pub fn is_refused(answer: Position) -> bool
+    ensures { λ r. ⌜ r ≡ not (eqb (positionPaper answer .number) 0) ⌝ }
+{
+    match answer {
+        Position::Month(_) => false,
+        Position::Strip(_) => false,
+        Position::None => false,
+        Position::Refused(_) => true,
+    }
 }
 
 // Why a day has no date.

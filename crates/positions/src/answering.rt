@@ -35,32 +35,17 @@ fn put_position(sink: Sink, position: u64, answer: Position, out: &mut [u8]) -> 
     put(put_kind(numbered, answer, out), b'\n', out)
 }
 
-fn days(answer: Position) -> u64 {
-    match answer {
-        Position::Month(n) => n,
-        Position::Strip(n) => n,
-        _ => 0,
-    }
-}
-
-fn is_refused(answer: Position) -> bool {
-    match answer {
-        Position::Refused(_) => true,
-        _ => false,
-    }
-}
-
 // A line for each position up to the first that is refused, and the days of all. Twenty lengths are far from wrapping.
 fn put_positions(start: Sink, calendar: u64, year: i64, out: &mut [u8]) -> Sink {
     let mut sink = start;
     let mut sum = 0;
     for position in 1..=MOST_POSITIONS {
         let answer = calendars::position_of(calendar, year, position);
-        if is_refused(answer) {
+        if calendars::is_refused(answer) {
             break;
         }
         sink = put_position(sink, position, answer, out);
-        sum = std::num::wrapping_add_u64(sum, days(answer));
+        sum = std::num::wrapping_add_u64(sum, calendars::days_of(answer));
     }
     put_all(put_number(sink, sum, out), b" days", out)
 }

@@ -6,7 +6,6 @@ use crate::tally;
 use crate::tally::Finding;
 use calendars::Date;
 use calendars::Day;
-use calendars::Position;
 use refusals::Refusal;
 
 pub(crate) fn compare_with(row: Line) -> Finding {
@@ -64,25 +63,10 @@ fn positions_sum_to(calendar: u64, year: i64, length: u64) -> bool {
     let mut sum = 0;
     for position in 1..14u64 {
         let answer = calendars::position_of(calendar, year, position);
-        if is_refused(answer) {
+        if calendars::is_refused(answer) {
             return false;
         }
-        sum = std::num::wrapping_add_u64(sum, days(answer));
+        sum = std::num::wrapping_add_u64(sum, calendars::days_of(answer));
     }
     sum == length
-}
-
-fn is_refused(answer: Position) -> bool {
-    match answer {
-        Position::Refused(_) => true,
-        _ => false,
-    }
-}
-
-fn days(answer: Position) -> u64 {
-    match answer {
-        Position::Month(n) => n,
-        Position::Strip(n) => n,
-        _ => 0,
-    }
 }

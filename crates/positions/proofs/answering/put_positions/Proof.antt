@@ -24,8 +24,8 @@ is-refused-requires c κs = search needs
 put-position-requires : tie.Need-put-position-requires Inv-loop μ-loop
 put-position-requires c κs = search needs
 
-days-requires : tie.Need-days-requires Inv-loop μ-loop
-days-requires c κs = search needs
+days-of-requires : tie.Need-days-of-requires Inv-loop μ-loop
+days-of-requires c κs = search needs
 
 wrapping-add-u64-requires : tie.Need-wrapping-add-u64-requires Inv-loop μ-loop
 wrapping-add-u64-requires c κs = search needs
@@ -64,7 +64,7 @@ put-positions-spec =
     position-of-requires
     is-refused-requires
     put-position-requires
-    days-requires
+    days-of-requires
     wrapping-add-u64-requires
     add-position
     loop-less

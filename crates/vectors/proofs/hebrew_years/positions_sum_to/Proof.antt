@@ -22,8 +22,8 @@ is-refused-requires c κs = search needs
 returns : tie.Need-returns Inv-loop μ-loop
 returns c = search needs
 
-days-requires : tie.Need-days-requires Inv-loop μ-loop
-days-requires c κs = search needs
+days-of-requires : tie.Need-days-of-requires Inv-loop μ-loop
+days-of-requires c κs = search needs
 
 wrapping-add-u64-requires : tie.Need-wrapping-add-u64-requires Inv-loop μ-loop
 wrapping-add-u64-requires c κs = search needs
@@ -50,7 +50,7 @@ positions-sum-to-spec =
     position-of-requires
     is-refused-requires
     returns
-    days-requires
+    days-of-requires
     wrapping-add-u64-requires
     add-position
     loop-less
