@@ -95,8 +95,8 @@ pub fn days_of(answer: Position) -> u64
     ensures { λ r. ⌜ r ≡ positionPaper answer .days ⌝ }
 {
     match answer {
-        Position::Month(days) => days,
-        Position::Strip(days) => days,
+        Position::Month(n) => n,
+        Position::Strip(n) => n,
         Position::None => 0,
         Position::Refused(_) => 0,
     }
