@@ -1,8 +1,9 @@
 -- The answers in steps are the answers: a year that is refused; a position that the year does not have; and one that it has, with the days in it.
 use mathlib.Core.List.{List}
 use mathlib.Core.Option.{Option}
-use mathlib.Core.Path.{_≡_, refl, sym, ap, _∙_}
+use mathlib.Core.Path.{_≡_, refl, sym, ap, subst, _∙_}
 use mathlib.Core.Bool.{Bool, true, false, cond, _&&_, _||_, true≢false}
+use mathlib.Core.Logic.{_⊎_, inl, inr}
 use Prim.Native.Nat.{ℕ, zero, suc, _+_, _-_, _*_, _/_, _%_, _^_, _≤_, _<_}
 use native.Mathlib.Decide.{decLt}
 use native.Mathlib.Omega.{arith}
@@ -15,6 +16,7 @@ use Rattle.counting.specs.Calendar.{total, start, len, dayOf}
 use Rattle.counting.specs.Years.{yearsFrom}
 use Rattle.counting.specs.Answers.{Calendar, years, DayAnswer, DateAnswer, lastDay, lastYear, yearOut, noMonth, noDay, dayOut, dayNumber}
 use Rattle.counting.specs.Answers.{lengthIn, monthZero, abovePositions, noDaysThatYear, noDayAnswer, noDateAnswer, dayFor, dateFor, dated, dateOn, after, ended, lastOf}
+use Rattle.counting.specs.Answers.{weekdayOf, FitsDay, wrongWeekday, weekdayTried}
 use Rattle.counting.specs.Positions.{Kind, PositionAnswer, noPosition, isStrip, kindIn, noPositionAnswer, positionFor}
 use Rattle.basics.proofs.Cases.{neither, cond-elim}
 use Rattle.counting.proofs.Counting.{counted}
@@ -22,14 +24,16 @@ use Rattle.counting.proofs.Positions.{days-in}
 use Rattle.counting.proofs.Rounds.{lengths-at, no-month, last-in, last-small, past-end, answered}
 use Rattle.counting.proofs.Signs.{years-small}
 use Rattle.counting.proofs.Totals.{getD-le-total}
+use Rattle.counting.proofs.Weekdays.{tried, refused}
 use Rattle.calendar_rules.specs.Calendars.{lookup, calendar, Listed}
-use Rattle.calendar_rules.specs.Answers.{ofListed, dayAnswer, dateAnswer, positionAnswer}
+use Rattle.calendar_rules.specs.Answers.{ofListed, dayAnswer, dayAnswerWith, dateAnswer, positionAnswer}
 use Rattle.calendar_rules.proofs.Listed.{listed-sound, endIf, end-is}
 use Rattle.calendar_rules.proofs.Positions.{absent}
 use Rattle.calendar_rules.proofs.Bounds.{start-within, position-within, year-days, has-days}
+use Rattle.calendar_rules.proofs.Weekdays.{with-weekday}
 use Rattle.calendar_rules.proofs.Claims.{day-asked, date-asked, position-asked}
 use Rattle.months.specs.Parts.{lengthAt, MonthOf, PlaceOf, PlaceTo, packedIn, PackedAt}
-use Rattle.asking.specs.Steps.{OfListed, packedDay, noneNumber, packedNone, noneThere, kindAt, stripOr0, Answered, Sought, onDay, inRange, tryEnd, endTried, dayIn, whyNot, Found}
+use Rattle.asking.specs.Steps.{OfListed, packedDay, packedTried, noneNumber, packedNone, noneThere, kindAt, stripOr0, Answered, Sought, onDay, inRange, tryEnd, endTried, dayIn, whyNot, Found}
 use Rattle.asking.proofs.Arms.{before-first, never}
 
 -- ---- in a calendar, a year that is not refused
@@ -396,47 +400,79 @@ module _ (c m : ℕ) where
 -- r is x packed: what its number in the high place says of x
 abbrev Unpacks : ℕ → DayAnswer → Type 0
 Unpacks r x = r ≡ packedDay x
-    → (5 < r / 4294967296 → r / 4294967296 ≡ 17) × (r / 4294967296 ≡ 0 → _≡_ {A = DayAnswer} (record { number = 0; day = r }) x)
+    → (5 < r / 4294967296 → ¬ (r / 4294967296 ≡ 13) → r / 4294967296 ≡ 17)
+    × (r / 4294967296 ≡ 0 → _≡_ {A = DayAnswer} (record { number = 0; day = r }) x)
     × ((k : ℕ) → r / 4294967296 ≡ suc k → noDayAnswer (suc k) ≡ x)
 
-unpacks-refused : (r j : ℕ) → (5 < suc j → suc j ≡ 17) → Unpacks r (noDayAnswer (suc j))
+unpacks-refused : (r j : ℕ) → (5 < suc j → ¬ (suc j ≡ 13) → suc j ≡ 17) → Unpacks r (noDayAnswer (suc j))
 unpacks-refused r j h e =
     let q : r / 4294967296 ≡ suc j = omega arith in
-    ((λ g. q ∙ h (omega arith)), (λ z. absurd (omega arith)), λ k z. ap noDayAnswer (omega arith))
+    ((λ g n. q ∙ h (omega arith) (λ z. n (q ∙ z))), (λ z. absurd (omega arith)), λ k z. ap noDayAnswer (omega arith))
 
 unpacks-day : (r n : ℕ) → n ≤ lastDay → Unpacks r (record { number = 0; day = n })
 unpacks-day r n h e =
     let q : r ≡ n = omega arith in
-    ((λ g. absurd (omega arith)), (λ z. ap (λ (k : ℕ). record { number = 0; day = k }) q), λ k z. absurd (omega arith))
+    ((λ g n. absurd (omega arith)), (λ z. ap (λ (k : ℕ). record { number = 0; day = k }) q), λ k z. absurd (omega arith))
 
-pub unpacks : (c : ℕ) (y : ℤ) (m d r : ℕ) → Unpacks r (dayAnswer c y m d)
+-- of a date without a weekday,
+unpacks-rest : (c : ℕ) (y : ℤ) (m d r : ℕ) → Unpacks r (dayAnswer c y m d)
 unfolding dayAnswer dayFor
-unpacks c y m d r = go (calendar c)
+unpacks-rest c y m d r = go (calendar c)
   where
     go : (o : Option Calendar) → Unpacks r (ofListed o (noDayAnswer 1) (λ K. dayFor K y m d))
-    go Option.none = unpacks-refused r 0 (λ g. omega arith)
+    go Option.none = unpacks-refused r 0 (λ g n. omega arith)
     go (Option.some K) =
-        cond-elim (Unpacks r) (yearOut K y) _ _ (λ h. unpacks-refused r 1 (λ g. omega arith))
-        (λ h. cond-elim (Unpacks r) (noMonth K y m) _ _ (λ h. unpacks-refused r 2 (λ g. omega arith))
-        (λ h. cond-elim (Unpacks r) (noDay K y m d) _ _ (λ h. unpacks-refused r 3 (λ g. omega arith))
-        (λ h. cond-elim (Unpacks r) (ended K (dayNumber K y m d)) _ _ (λ h. unpacks-refused r 16 (λ g. refl))
-        (λ h. cond-elim (Unpacks r) (dayOut K (dayNumber K y m d)) _ _ (λ h. unpacks-refused r 4 (λ g. omega arith))
+        cond-elim (Unpacks r) (yearOut K y) _ _ (λ h. unpacks-refused r 1 (λ g n. omega arith))
+        (λ h. cond-elim (Unpacks r) (noMonth K y m) _ _ (λ h. unpacks-refused r 2 (λ g n. omega arith))
+        (λ h. cond-elim (Unpacks r) (noDay K y m d) _ _ (λ h. unpacks-refused r 3 (λ g n. omega arith))
+        (λ h. cond-elim (Unpacks r) (ended K (dayNumber K y m d)) _ _ (λ h. unpacks-refused r 16 (λ g n. refl))
+        (λ h. cond-elim (Unpacks r) (dayOut K (dayNumber K y m d)) _ _ (λ h. unpacks-refused r 4 (λ g n. omega arith))
         (λ h. unpacks-day r (dayNumber K y m d)
         (ltb-false lastDay (dayNumber K y m d) (neither (ltb lastDay (dayNumber K y m d)) (ltb (dayNumber K y m d) (K .firstDay)) h .0)))))))
 
+-- and with one
+pub unpacks : (c : ℕ) (y : ℤ) (m d w r : ℕ) → Unpacks r (dayAnswerWith c y m d w)
+unpacks c y m d w r = subst (Unpacks r) (sym (with-weekday c y m d w)) (go (tried w (dayAnswer c y m d)))
+  where
+    go : ((weekdayTried w (dayAnswer c y m d) ≡ noDayAnswer 13) × (dayAnswer c y m d .number ≡ 0) × ¬ FitsDay w (dayAnswer c y m d .day))
+        ⊎ ((weekdayTried w (dayAnswer c y m d) ≡ dayAnswer c y m d) × (dayAnswer c y m d .number ≡ 0 → FitsDay w (dayAnswer c y m d .day)))
+        → Unpacks r (weekdayTried w (dayAnswer c y m d))
+    go (inl t) = subst (Unpacks r) (sym (t .0)) (unpacks-refused r 12 (λ g n. absurd (n refl)))
+    go (inr t) = subst (Unpacks r) (sym (t .0)) (unpacks-rest c y m d r)
+
+-- from the one to the other
+pub packed-with : (c : ℕ) (y : ℤ) (m d w r : ℕ) → r ≡ packedDay (dayAnswer c y m d) → packedTried w r ≡ packedDay (dayAnswerWith c y m d w)
+unfolding weekdayTried
+packed-with c y m d w r e = go (r / 4294967296) refl (unpacks-rest c y m d r e) ∙ ap packedDay (sym (with-weekday c y m d w))
+  where
+    either-way : (t : Bool) → cond t (13 * 2 ^ 32) r ≡ packedDay (cond t (noDayAnswer 13) (record { number = 0; day = r }))
+    either-way true = refl
+    either-way false = omega arith
+
+    go : (k : ℕ) → r / 4294967296 ≡ k
+        → (5 < r / 4294967296 → ¬ (r / 4294967296 ≡ 13) → r / 4294967296 ≡ 17)
+        × (r / 4294967296 ≡ 0 → _≡_ {A = DayAnswer} (record { number = 0; day = r }) (dayAnswer c y m d))
+        × ((k : ℕ) → r / 4294967296 ≡ suc k → noDayAnswer (suc k) ≡ dayAnswer c y m d)
+        → packedTried w r ≡ packedDay (weekdayTried w (dayAnswer c y m d))
+    go zero f u = rw (sym (u .1 f), lt-ltb r 4294967296 (omega arith)) (either-way (wrongWeekday w r))
+    go (suc k) f u =
+        let n = ap (λ (a : DayAnswer). a .number) (u .2 k f) in
+        rw (le-ltb r 4294967296 (omega arith), refused w (dayAnswer c y m d) (λ z. omega (arith, n, z))) e
+
 -- and its two fields
-pub fields : (c : ℕ) (y : ℤ) (m d r : ℕ) → r ≡ packedDay (dayAnswer c y m d)
-    → _≡_ {A = DayAnswer} (record { number = r / 4294967296; day = r % 4294967296 }) (dayAnswer c y m d)
-fields c y m d r e = go (r / 4294967296) refl (unpacks c y m d r e)
+pub fields : (c : ℕ) (y : ℤ) (m d w r : ℕ) → r ≡ packedDay (dayAnswerWith c y m d w)
+    → _≡_ {A = DayAnswer} (record { number = r / 4294967296; day = r % 4294967296 }) (dayAnswerWith c y m d w)
+fields c y m d w r e = go (r / 4294967296) refl (unpacks c y m d w r e)
   where
     both-are : {a b : ℕ} → r / 4294967296 ≡ a → r % 4294967296 ≡ b
         → _≡_ {A = DayAnswer} (record { number = r / 4294967296; day = r % 4294967296 }) (record { number = a; day = b })
     both-are f g = λ i. record { number = f i; day = g i }
 
     go : (k : ℕ) → r / 4294967296 ≡ k
-        → (5 < r / 4294967296 → r / 4294967296 ≡ 17) × (r / 4294967296 ≡ 0 → _≡_ {A = DayAnswer} (record { number = 0; day = r }) (dayAnswer c y m d))
-        × ((k : ℕ) → r / 4294967296 ≡ suc k → noDayAnswer (suc k) ≡ dayAnswer c y m d)
-        → _≡_ {A = DayAnswer} (record { number = r / 4294967296; day = r % 4294967296 }) (dayAnswer c y m d)
+        → (5 < r / 4294967296 → ¬ (r / 4294967296 ≡ 13) → r / 4294967296 ≡ 17)
+        × (r / 4294967296 ≡ 0 → _≡_ {A = DayAnswer} (record { number = 0; day = r }) (dayAnswerWith c y m d w))
+        × ((k : ℕ) → r / 4294967296 ≡ suc k → noDayAnswer (suc k) ≡ dayAnswerWith c y m d w)
+        → _≡_ {A = DayAnswer} (record { number = r / 4294967296; day = r % 4294967296 }) (dayAnswerWith c y m d w)
     go zero f u = both-are f (omega arith) ∙ u .1 f
     go (suc k) f u = let p = ap packedDay (u .2 k f) in both-are f (omega arith) ∙ u .2 k f
 
@@ -532,14 +568,15 @@ module _ (c n : ℕ) where
       none-asked : calendar c ≡ Option.none → dateAnswer c n ≡ noDateAnswer 1
       none-asked e = of-answer (λ a. a ≡ noDateAnswer 1) (λ f. refl) (λ K l. never (sym (l .row) ∙ e))
 
-  pub date-given : (dateAnswer c n .month ≡ 0 → ⊥) → 0 ≡ dateAnswer c n .number
+  pub date-given : (dateAnswer c n .month ≡ 0 → ⊥) → (0 ≡ dateAnswer c n .number) × (weekdayOf n ≡ dateAnswer c n .weekday)
   unfolding dateFor
   date-given =
-      of-answer (λ a. (a .month ≡ 0 → ⊥) → 0 ≡ a .number) (λ e h. absurd (h refl))
+      of-answer (λ a. (a .month ≡ 0 → ⊥) → (0 ≡ a .number) × (weekdayOf n ≡ a .weekday)) (λ e h. absurd (h refl))
       (λ K l. in-range K (dayOut K n) (ended K n))
     where
       in-range : (K : Calendar) (t u : Bool)
-          → let a = cond t (noDateAnswer 5) (cond u (noDateAnswer 17) (dated K (dateOn K n))) in (a .month ≡ 0 → ⊥) → 0 ≡ a .number
+          → let a = cond t (noDateAnswer 5) (cond u (noDateAnswer 17) (dated K (dateOn K n) (weekdayOf n))) in
+          (a .month ≡ 0 → ⊥) → (0 ≡ a .number) × (weekdayOf n ≡ a .weekday)
       in-range K true u h = absurd (h refl)
       in-range K false true h = absurd (h refl)
-      in-range K false false h = refl
+      in-range K false false h = (refl, refl)

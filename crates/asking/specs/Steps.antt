@@ -7,7 +7,7 @@ use lib.Dec.{eqb, ltb}
 use lib.IntN.{ℤ, negsuc}
 use lib.Signed.{ltZ}
 use Rattle.counting.specs.Years.{yearsFrom}
-use Rattle.counting.specs.Answers.{Calendar, DayAnswer, noDayAnswer, lastDay, lastYear, yearOut, ended, lastOf}
+use Rattle.counting.specs.Answers.{Calendar, DayAnswer, noDayAnswer, lastDay, lastYear, yearOut, ended, wrongWeekday, lastOf}
 use Rattle.counting.specs.Positions.{Kind, PositionAnswer, noPositionAnswer}
 use Rattle.calendar_rules.specs.Calendars.{calendar, Listed}
 use Rattle.calendar_rules.specs.Answers.{ofListed, dateAnswer}
@@ -27,6 +27,10 @@ pub record Answered (c : ℕ) (P : Calendar → Type 0) (x : ℕ) : Type 0 where
 -- an answer as one number: the answer number 2^32 high
 abbrev pub packedDay : DayAnswer → ℕ
 packedDay x = x .number * 2 ^ 32 + x .day
+
+-- a weekday tried on such a number
+abbrev pub packedTried : ℕ → ℕ → ℕ
+packedTried w r = cond (ltb r (2 ^ 32) && wrongWeekday w r) (13 * 2 ^ 32) r
 
 -- why there is no position of year y that was sought: 1, 2 or 3, whichever is first
 unfoldable pub noneNumber : ℕ → ℤ → ℕ

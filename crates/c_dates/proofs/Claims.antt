@@ -1,17 +1,19 @@
 -- What is shown of the functions for C, on one page. Each promise in `src/lib.rt` is an equation, for every input: the fields of the struct that C gets
--- (`dayFields`, `dateFields`, `positionFields` of specs/Fields.antt) are the answer that crate calendar_rules defines (`dayAnswer`, `dateAnswer`,
+-- (`dayFields`, `dateFields`, `positionFields` of specs/Fields.antt) are the answer that crate calendar_rules defines (`dayAnswerWith`, `dateAnswer`,
 -- `positionAnswer`). What these mean is on its claims page. Here: where the number is not 0, every other field is 0.
 use mathlib.Core.Path.{_≡_, refl}
+use mathlib.Core.Bool.{_&&_}
 use mathlib.Core.Option.{Option}
 use Prim.Native.Nat.{ℕ}
+use lib.Dec.{eqb}
 use lib.IntN.{ℤ, pos}
 use Rattle.basics.proofs.Cases.{cond-elim}
 use Rattle.refusals.specs.Number.{Refused}
 use Rattle.counting.specs.Answers.{Calendar, DayAnswer, DateAnswer, noDayAnswer, noDateAnswer}
-use Rattle.counting.specs.Answers.{yearOut, noMonth, noDay, dayOut, ended, dayNumber, dayFor, dateFor}
+use Rattle.counting.specs.Answers.{yearOut, noMonth, noDay, dayOut, ended, wrongWeekday, dayNumber, dayFor, weekdayTried, dateFor}
 use Rattle.counting.specs.Positions.{PositionAnswer, noPosition, noPositionAnswer, positionFor}
 use Rattle.calendar_rules.specs.Calendars.{calendar}
-use Rattle.calendar_rules.specs.Answers.{ofListed, dayAnswer, dateAnswer, positionAnswer}
+use Rattle.calendar_rules.specs.Answers.{ofListed, dayAnswerWith, dateAnswer, positionAnswer}
 use Rattle.c_dates.specs.Fields.{positionFields}
 use Rattle.c_dates.specs.declared.PositionFields.{PositionFields}
 
@@ -29,23 +31,24 @@ pub record DayZero (x : DayAnswer) : Type 0 where
 no-day : (k : ℕ) → DayZero (noDayAnswer k)
 no-day k = record { zero = λ h. refl }
 
-pub day-zero : (c : ℕ) (y : ℤ) (m d : ℕ) → DayZero (dayAnswer c y m d)
-unfolding dayAnswer dayFor
-day-zero c y m d =
+pub day-zero : (c : ℕ) (y : ℤ) (m d w : ℕ) → DayZero (dayAnswerWith c y m d w)
+unfolding dayAnswerWith weekdayTried dayFor
+day-zero c y m d w =
     listed-elim DayZero (calendar c) _ _ (no-day 1)
-    (λ K. cond-elim DayZero (yearOut K y) _ _ (λ e. no-day 2)
+    (λ K. cond-elim DayZero (eqb (dayFor K y m d .number) 0 && wrongWeekday w (dayFor K y m d .day)) _ _ (λ e. no-day 13)
+    (λ e. cond-elim DayZero (yearOut K y) _ _ (λ e. no-day 2)
     (λ e. cond-elim DayZero (noMonth K y m) _ _ (λ e. no-day 3)
     (λ e. cond-elim DayZero (noDay K y m d) _ _ (λ e. no-day 4)
     (λ e. cond-elim DayZero (ended K (dayNumber K y m d)) _ _ (λ e. no-day 17)
-    (λ e. cond-elim DayZero (dayOut K (dayNumber K y m d)) _ _ (λ e. no-day 5) (λ e. record { zero = λ h. absurd (h refl) }))))))
+    (λ e. cond-elim DayZero (dayOut K (dayNumber K y m d)) _ _ (λ e. no-day 5) (λ e. record { zero = λ h. absurd (h refl) })))))))
 
 -- ---- day to date
 
 pub record DateZero (x : DateAnswer) : Type 0 where
-  pub zero : Refused (x .number) → (x .year ≡ pos 0) × (x .month ≡ 0) × (x .day ≡ 0)
+  pub zero : Refused (x .number) → (x .year ≡ pos 0) × (x .month ≡ 0) × (x .day ≡ 0) × (x .weekday ≡ 0)
 
 no-date : (k : ℕ) → DateZero (noDateAnswer k)
-no-date k = record { zero = λ h. (refl, refl, refl) }
+no-date k = record { zero = λ h. (refl, refl, refl, refl) }
 
 pub date-zero : (c n : ℕ) → DateZero (dateAnswer c n)
 unfolding dateAnswer dateFor

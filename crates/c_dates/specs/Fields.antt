@@ -10,7 +10,7 @@ abbrev pub dayFields : DayFields → DayAnswer
 dayFields x = record { number = x .number; day = x .day }
 
 abbrev pub dateFields : DateFields → DateAnswer
-dateFields x = record { number = x .number; year = x .year; month = x .month; day = x .day }
+dateFields x = record { number = x .number; year = x .year; month = x .month; day = x .day; weekday = x .weekday }
 
 abbrev pub kindNumber : Kind → ℕ
 kindNumber Kind.none = 0

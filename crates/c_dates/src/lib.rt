@@ -3,7 +3,7 @@
 use calendars::Dated;
 use calendars::Position;
 ghost use mathlib.Core.Path.{_≡_};
-ghost use Rattle.calendar_rules.specs.Answers.{dayAnswer, dateAnswer, positionAnswer};
+ghost use Rattle.calendar_rules.specs.Answers.{dayAnswerWith, dateAnswer, positionAnswer};
 ghost use Rattle.calendars.specs.Paper.{datePaper, positionPaper};
 ghost use Rattle.c_dates.specs.Fields.{dayFields, dateFields, positionFields};
 
@@ -21,6 +21,7 @@ pub struct DateFields {
     pub year: i64,
     pub month: u64,
     pub day: u64,
+    pub weekday: u64,
 }
 
 // struct ijok_position
@@ -40,10 +41,10 @@ const STRIP: u64 = 2;
 
 // The day of a date: by its one number, since an enum would be handed over through memory.
 #[no_mangle]
-pub extern "C" fn ijok_date_to_day(calendar: u64, year: i64, month: u64, day: u64) -> DayFields
-    ensures { λ r. ⌜ dayFields r ≡ dayAnswer calendar year month day ⌝ }
+pub extern "C" fn ijok_date_to_day(calendar: u64, year: i64, month: u64, day: u64, weekday: u64) -> DayFields
+    ensures { λ r. ⌜ dayFields r ≡ dayAnswerWith calendar year month day weekday ⌝ }
 {
-    let r = numbering::packed_day(calendar, year, month, day);
+    let r = weekdays::packed_day(calendar, year, month, day, weekday);
     DayFields {
         number: r / 0x1_0000_0000,
         day: r % 0x1_0000_0000,
@@ -67,12 +68,14 @@ fn date_fields(answer: Dated) -> DateFields
             year: date.year,
             month: date.month,
             day: date.day,
+            weekday: date.weekday,
         },
         Dated::Refused(why) => DateFields {
             number: refusals::wide_number(why),
             year: 0,
             month: 0,
             day: 0,
+            weekday: 0,
         },
     }
 }

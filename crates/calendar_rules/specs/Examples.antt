@@ -4,19 +4,21 @@ use Prim.Native.Nat.{ℕ}
 use mathlib.Core.Path.{_≡_}
 use mathlib.Core.List.{List, [], _∷_}
 use lib.IntN.{ℤ, pos, negsuc}
-use Rattle.counting.specs.Answers.{DayAnswer, noDayAnswer, DateAnswer, noDateAnswer}
+use Rattle.counting.specs.Answers.{DayAnswer, noDayAnswer, DateAnswer, theDate, noDateAnswer}
 use Rattle.counting.specs.Positions.{Kind, PositionAnswer, noPositionAnswer}
-use Rattle.calendar_rules.specs.Answers.{dayAnswer, dateAnswer, positionAnswer}
+use Rattle.calendar_rules.specs.Answers.{dayAnswer, dayAnswerWith, dateAnswer, positionAnswer}
 
--- a question and its answer: the day of a date (calendar, year, month, day), the date of a day, a position of a year
+-- a question and its answer: the day of a date (calendar, year, month, day; and with a weekday), the date of a day, a position of a year
 pub data Example : Type 0 where
   date : ℕ → ℤ → ℕ → ℕ → DayAnswer → Example
+  dateWith : ℕ → ℤ → ℕ → ℕ → ℕ → DayAnswer → Example
   day : ℕ → ℕ → DateAnswer → Example
   position : ℕ → ℤ → ℕ → PositionAnswer → Example
 
 -- it is answered so
 abbrev pub Answered : Example → Type 0
 Answered (date c y m d a) = dayAnswer c y m d ≡ a
+Answered (dateWith c y m d w a) = dayAnswerWith c y m d w ≡ a
 Answered (day c n a) = dateAnswer c n ≡ a
 Answered (position c y m a) = positionAnswer c y m ≡ a
 
@@ -63,10 +65,10 @@ limits =
     -- Gregorian 9999/12/31 is 5373484, the last day; 10000/1/1 is refused 5
     date 11 (pos 9999) 12 31 (is 5373484)
     ∷ date 11 (pos 10000) 1 1 (noDayAnswer 5)
-    ∷ day 11 5373484 (record { number = 0; year = pos 9999; month = 12; day = 31 })
+    ∷ day 11 5373484 (theDate (pos 9999) 12 31 5)
     ∷ day 11 5373485 (noDateAnswer 5)
     -- the first days
-    ∷ day 11 38 (record { number = 0; year = negsuc 4711; month = 1; day = 1 })
+    ∷ day 11 38 (theDate (negsuc 4711) 1 1 4)
     ∷ day 11 37 (noDateAnswer 5)
     -- years 1 and -4712 are the first, year 20,000 the last
     ∷ position 1 (pos 0) 1 (noPositionAnswer 2)
@@ -90,7 +92,7 @@ ends =
     ∷ date 7 (pos 14) 4 31 (noDayAnswer 4)
     ∷ date 7 (pos 20000) 1 1 (noDayAnswer 17)
     ∷ date 7 (pos 20001) 1 1 (noDayAnswer 2)
-    ∷ day 7 2380687 (record { number = 0; year = pos 14; month = 4; day = 10 })
+    ∷ day 7 2380687 (theDate (pos 14) 4 10 2)
     ∷ day 7 2380688 (noDateAnswer 17)
     ∷ day 7 5373485 (noDateAnswer 5)
     ∷ position 7 (pos 20000) 13 (stripOf 5)
@@ -130,4 +132,23 @@ months =
     ∷ position 18 (pos 1) 8 (monthOf 30)
     ∷ position 18 (pos 3) 7 (monthOf 29)
     ∷ position 18 (pos 3) 14 (noPositionAnswer 3)
+    ∷ []
+
+-- day 0 was a Monday, and 1 January 2000 a Saturday. 13 is tried last
+abbrev pub weekdays : List Example
+weekdays =
+    day 10 0 (theDate (negsuc 4711) 1 1 1)
+    ∷ dateWith 10 (negsuc 4711) 1 1 1 (is 0)
+    ∷ dateWith 10 (negsuc 4711) 1 1 7 (noDayAnswer 13)
+    ∷ dateWith 11 (pos 2000) 1 1 0 (is 2451545)
+    ∷ dateWith 11 (pos 2000) 1 1 6 (is 2451545)
+    ∷ dateWith 11 (pos 2000) 1 1 5 (noDayAnswer 13)
+    ∷ dateWith 11 (pos 2000) 1 1 8 (noDayAnswer 13)
+    ∷ dateWith 11 (pos 2000) 1 1 13 (noDayAnswer 13)
+    ∷ dateWith 11 (pos 10000) 1 1 9 (noDayAnswer 5)
+    ∷ dateWith 7 (pos 14) 4 11 9 (noDayAnswer 17)
+    ∷ dateWith 11 (pos 1900) 2 29 9 (noDayAnswer 4)
+    ∷ dateWith 11 (pos 1900) 13 1 9 (noDayAnswer 3)
+    ∷ dateWith 11 (pos 20001) 1 1 9 (noDayAnswer 2)
+    ∷ dateWith 0 (pos 2000) 1 1 9 (noDayAnswer 1)
     ∷ []

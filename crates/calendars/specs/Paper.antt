@@ -1,7 +1,6 @@
 -- The answers in the rules' words: each case of an answer as its number and its values. A refusal has its number, and 0 in all other fields.
-use lib.IntN.{pos}
 use Rattle.refusals.specs.Number.{numberOf}
-use Rattle.counting.specs.Answers.{DayAnswer, DateAnswer}
+use Rattle.counting.specs.Answers.{DayAnswer, noDayAnswer, DateAnswer, theDate, noDateAnswer}
 use Rattle.counting.specs.Positions.{Kind, PositionAnswer}
 use Rattle.calendars.specs.declared.Day.{Day}
 use Rattle.calendars.specs.declared.Day.the-variants as N
@@ -12,11 +11,11 @@ use Rattle.calendars.specs.declared.Position.the-variants as P
 
 abbrev pub dayPaper : Day → DayAnswer
 dayPaper (N.Number n) = record { number = 0; day = n }
-dayPaper (N.Refused why) = record { number = numberOf why; day = 0 }
+dayPaper (N.Refused why) = noDayAnswer (numberOf why)
 
 abbrev pub datePaper : Dated → DateAnswer
-datePaper (D.On date) = record { number = 0; year = date .year; month = date .month; day = date .day }
-datePaper (D.Refused why) = record { number = numberOf why; year = pos 0; month = 0; day = 0 }
+datePaper (D.On date) = theDate (date .year) (date .month) (date .day) (date .weekday)
+datePaper (D.Refused why) = noDateAnswer (numberOf why)
 
 abbrev pub positionPaper : Position → PositionAnswer
 positionPaper (P.Month n) = record { number = 0; kind = Kind.month; days = n }

@@ -1,20 +1,21 @@
 // The sixteen calendars: the day of a date, the date of a day, and what a position of a year is. Each is found as plain numbers by a crate of its own
-// (`numbering`, `dating`, `measuring`); here it becomes an answer.
+// (`weekdays`, `dating`, `measuring`); here it becomes an answer.
 use refusals::Refusal;
 ghost use mathlib.Core.Path.{_≡_};
 ghost use mathlib.Core.Bool.{not};
 ghost use lib.Dec.{eqb};
-ghost use Rattle.calendar_rules.specs.Answers.{dayAnswer, dateAnswer, positionAnswer};
+ghost use Rattle.calendar_rules.specs.Answers.{dayAnswerWith, dateAnswer, positionAnswer};
 ghost use Rattle.asking.specs.Steps.{noneNumber, noneThere};
 ghost use Rattle.calendars.specs.Paper.{dayPaper, datePaper, positionPaper};
 
 const LAST_DAY: u64 = 5373484;
 
-// A date. Years are signed, and year 0 exists; months and days are counted from 1.
+// A date. Years are signed, and year 0 exists; months and days are counted from 1. Weekdays are 1 Monday to 7 Sunday; 0 hands in none.
 pub struct Date {
     pub year: i64,
     pub month: u64,
     pub day: u64,
+    pub weekday: u64,
 }
 
 // The answer to a date: its Julian day number, or why there is none.
@@ -37,11 +38,11 @@ pub enum Position {
     Refused(Refusal),
 }
 
-// The day of a date.
+// The day of a date. The refusals 1, 2, 3, 4, 17, 5, 13 are tried.
 pub fn date_to_day(calendar: u64, date: Date) -> Day
-    ensures { λ r. ⌜ dayPaper r ≡ dayAnswer calendar (date .year) (date .month) (date .day) ⌝ }
+    ensures { λ r. ⌜ dayPaper r ≡ dayAnswerWith calendar (date .year) (date .month) (date .day) (date .weekday) ⌝ }
 {
-    let r = numbering::packed_day(calendar, date.year, date.month, date.day);
+    let r = weekdays::packed_day(calendar, date.year, date.month, date.day, date.weekday);
     match r / 0x1_0000_0000 {
         0 => Day::Number(r),
         1 => Day::Refused(Refusal::UnknownCalendar),
@@ -49,6 +50,7 @@ pub fn date_to_day(calendar: u64, date: Date) -> Day
         3 => Day::Refused(Refusal::NoSuchMonth),
         4 => Day::Refused(Refusal::NoSuchDay),
         5 => Day::Refused(Refusal::DayOutOfRange),
+        13 => Day::Refused(Refusal::WrongWeekday),
         _ => Day::Refused(Refusal::CalendarEnded),
     }
 }
@@ -143,5 +145,6 @@ pub fn day_to_date(calendar: u64, day: u64) -> Dated
         year: p.year,
         month: p.month,
         day: p.day,
+        weekday: weekdays::weekday_of(day),
     })
 }

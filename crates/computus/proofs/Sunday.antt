@@ -31,7 +31,7 @@ feast first leap f m n A h l w =
     let s = sunday m n A (day22March first leap A) w in
     let g = good-after first leap f A h (s .0) (s .1) l in
     let r = in-spring (s .0) (s .1) in
-    rw (s .2) (record { done = r .0; season = r .1; good = ap (λ a. a .number) g; weekday = ap (λ a. a .day % 7) g ∙ s .3 })
+    rw (s .2) (record { done = r .0; season = r .1; good = ap (λ a. a .number) g; weekday = omega (arith, ap (λ a. a .day) g, s .3) })
 
 -- within its years a rule is asked
 pub asked : (first A : ℕ) (rule : ℕ → EasterAnswer) → first ≤ A → A ≤ 9999 → inYears first rule (pos A) ≡ rule A

@@ -1,8 +1,9 @@
 -- What an Easter is (docs/RULES.md, "Easter"): a date of its season, one that its calendar has, and a Sunday by the calendar's own date to day.
 use mathlib.Core.Path.{_≡_}
 use mathlib.Core.Logic.{_⊎_}
-use Prim.Native.Nat.{ℕ, _%_, _≤_}
+use Prim.Native.Nat.{ℕ, _≤_}
 use lib.IntN.{ℤ, pos}
+use Rattle.counting.specs.Answers.{weekdayOf}
 use Rattle.calendar_rules.specs.Answers.{dayAnswer}
 use Rattle.computus.specs.Rule.{EasterAnswer}
 
@@ -16,9 +17,8 @@ abbrev pub InSpring : EasterAnswer → Type 0
 InSpring D = ((D .month ≡ 3) × (22 ≤ D .day) × (D .day ≤ 31)) ⊎ ((D .month ≡ 4) × (1 ≤ D .day) × (D .day ≤ 25))
 
 -- D is answered for a year of calendar c: a date from 22 March to 25 April, one that the calendar's date to day accepts, and a Sunday by it
--- (Monday has remainder 0 when the day is divided by 7)
 pub record Feast (c : ℕ) (year : ℤ) (D : EasterAnswer) : Type 0 where
   pub done : D .number ≡ 0
   pub season : InSpring D
   pub good : dayAnswer c year (D .month) (D .day) .number ≡ 0
-  pub weekday : dayAnswer c year (D .month) (D .day) .day % 7 ≡ 6
+  pub weekday : weekdayOf (dayAnswer c year (D .month) (D .day) .day) ≡ 7

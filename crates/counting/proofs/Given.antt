@@ -1,9 +1,9 @@
 -- The number of each answer is the one that the rules' table gives (specs/Given.antt).
-use mathlib.Core.Path.{_≡_, refl, sym, subst}
+use mathlib.Core.Path.{_≡_, refl, sym, ap, subst}
 use mathlib.Core.Bool.{Bool, true, false, cond, _||_, true≢false}
-use mathlib.Core.List.{List, _∷_}
+use mathlib.Core.List.{List, [], _∷_, _++_}
 use mathlib.Core.Option.{Option}
-use mathlib.Core.Logic.{_↔_}
+use mathlib.Core.Logic.{_⊎_, inl, inr, _↔_}
 use Prim.Native.Nat.{ℕ, _≤_, _<_}
 use native.Mathlib.Omega.{arith}
 use lib.Dec.{eqb, ltb}
@@ -12,16 +12,18 @@ use lib.ListN.{length}
 use lib.Signed.{ltZ}
 use borrow.Author.Tests.{eqb-true, eqb-false, ltb-true, ltb-false}
 use Rattle.counting.specs.Answers.{Calendar, DayAnswer, DateAnswer, lastDay, lastYear, yearOut, lengthIn, monthZero, abovePositions}
-use Rattle.counting.specs.Answers.{noDaysThatYear, noMonth, noDay, dayOut, after, ended, dayNumber, noDayAnswer, noDateAnswer, dayFor, dateFor}
+use Rattle.counting.specs.Answers.{noDaysThatYear, noMonth, noDay, dayOut, after, ended, dayNumber, noDayAnswer, noDateAnswer, dayFor, dayWith, dateFor}
+use Rattle.counting.specs.Answers.{FitsDay}
 use Rattle.counting.specs.Positions.{PositionAnswer, noPosition, noPositionAnswer, positionFor}
 use Rattle.counting.specs.Given.{Given, dateOrder, dayOrder, positionOrder, OfYear, OfDate, OfDay, OfPosition}
 use Rattle.counting.specs.Given.OfYear.{below-first, above-20000}
-use Rattle.counting.specs.Given.OfDate.{its-year, month-0, above-positions, no-days, day-0, beyond-month, its-day}
+use Rattle.counting.specs.Given.OfDate.{its-year, month-0, above-positions, no-days, day-0, beyond-month, its-day, other-weekday}
 use Rattle.counting.specs.Given.OfPosition.{its-year as of-its-year, position-0, above-positions as above-all}
 use Rattle.counting.specs.Given.OfDay.{above-5373484, before-first, after-end}
 use Rattle.counting.specs.Given.Given.{done, first, later}
 use Rattle.basics.specs.Every.{All}
 use Rattle.basics.proofs.Cases.{neither}
+use Rattle.counting.proofs.Weekdays as W
 
 -- one number is given,
 one-given : {A : ℕ → Type 0} {order : List ℕ} {j k : ℕ} → Given A order j → Given A order k → j ≡ k
@@ -40,6 +42,14 @@ pub one-of : (P : ℕ → Type 0) {A : ℕ → Type 0} {order : List ℕ} {k : �
 one-of P z a done = z
 one-of P z a (first h) = a .0
 one-of P z a (later n g) = one-of P z (a .1) g
+
+-- numbers that are tried after all of an order, where it gives 0
+appended : {A : ℕ → Type 0} {order rest : List ℕ} {j k : ℕ} → All (λ (i : ℕ). ¬ (i ≡ 0)) order → Given A order j
+    → (j ≡ 0 → Given A rest k) → (¬ (j ≡ 0) → k ≡ j)
+    → Given A (order ++ rest) k
+appended {A} {order} {rest} a done f g = f refl
+appended {A} {order} {rest} a (first h) f g = subst (Given A (order ++ rest)) (sym (g (a .0))) (first h)
+appended a (later n h) f g = later n (appended (a .1) h f g)
 
 -- where one test or the other holds
 either : {C : Type 0} (t u : Bool) → (t || u) ≡ true → (t ≡ true → C) → (u ≡ true → C) → C
@@ -85,6 +95,14 @@ module _ (K : Calendar) (n : ℕ) where
   from-5 (above-5373484 f) = omega arith
   from-5 (before-first f) = omega arith
   from-5 (after-end e f) = omega arith
+
+  no-13 : ¬ OfDay K n 13
+  no-13 a = go a refl
+    where
+      go : {j : ℕ} → OfDay K n j → ¬ (j ≡ 13)
+      go (above-5373484 f) e = omega arith
+      go (before-first f) e = omega arith
+      go (after-end e f) g = omega arith
 
   -- so not 1
   pub no-1 : ¬ OfDay K n 1
@@ -163,61 +181,109 @@ module _ (K : Calendar) (y : ℤ) (m : ℕ) where
 
 -- ---- date to day
 
-module _ (K : Calendar) (y : ℤ) (m d : ℕ) where
+-- of a date that is given a day: no test holds, and the day is its number
+module _ (K : Calendar) (y : ℤ) (m d : ℕ) (e : dayFor K y m d .number ≡ 0) where
+  pub none-applies : (yearOut K y ≡ false) × (noMonth K y m ≡ false) × (noDay K y m d ≡ false) × (ended K (dayNumber K y m d) ≡ false)
+      × (dayOut K (dayNumber K y m d) ≡ false)
+  unfolding dayFor
+  none-applies =
+      let n = dayNumber K y m d in
+      let through = passed (λ (a : DayAnswer). a .number) in
+      let q = through (yearOut K y) (noDayAnswer 2) _ (omega arith) e in
+      let r = through (noMonth K y m) (noDayAnswer 3) _ (omega arith) (q .1) in
+      let s = through (noDay K y m d) (noDayAnswer 4) _ (omega arith) (r .1) in
+      let t = through (ended K n) (noDayAnswer 17) _ (omega arith) (s .1) in
+      let u = through (dayOut K n) (noDayAnswer 5) _ (omega arith) (t .1) in
+      (q .0, r .0, s .0, t .0, u .0)
+
+  pub day-is : dayFor K y m d .day ≡ dayNumber K y m d
+  unfolding dayFor
+  day-is = let t = none-applies in rw (t .0, t .1, t .2, t .3, t .4) refl
+
+module _ (K : Calendar) (y : ℤ) (m d w : ℕ) where
   -- each test holds exactly where its number applies
-  date-not-2 : yearOut K y ≡ false → ¬ OfDate K y m d 2
+  date-not-2 : yearOut K y ≡ false → ¬ OfDate K y m d w 2
   date-not-2 e (its-year a) = not-2 K y e a
   date-not-2 e (its-day a) = omega (arith, from-5 K (dayNumber K y m d) a)
 
-  is-3 : noMonth K y m ≡ true → OfDate K y m d 3
+  is-3 : noMonth K y m ≡ true → OfDate K y m d w 3
   is-3 e = either (noPosition K y m) (noDaysThatYear K y m) e (λ f. at (position-is-3 K y m f)) (λ f. no-days (eqb-true (lengthIn K y m) 0 f))
     where
-      at : OfPosition K y m 3 → OfDate K y m d 3
+      at : OfPosition K y m 3 → OfDate K y m d w 3
       at (of-its-year a) = its-year a
       at (position-0 f) = month-0 f
       at (above-all f) = above-positions f
 
-  not-3 : noMonth K y m ≡ false → ¬ OfDate K y m d 3
+  not-3 : noMonth K y m ≡ false → ¬ OfDate K y m d w 3
   not-3 e a = let M = neither (noPosition K y m) (noDaysThatYear K y m) e in go (position-not-3 K y m (M .0)) (eqb-false (lengthIn K y m) 0 (M .1)) a
     where
-      go : ¬ OfPosition K y m 3 → ¬ (lengthIn K y m ≡ 0) → ¬ OfDate K y m d 3
+      go : ¬ OfPosition K y m 3 → ¬ (lengthIn K y m ≡ 0) → ¬ OfDate K y m d w 3
       go u w (its-year a) = u (of-its-year a)
       go u w (month-0 f) = u (position-0 f)
       go u w (above-positions f) = u (above-all f)
       go u w (no-days f) = w f
       go u w (its-day a) = omega (arith, from-5 K (dayNumber K y m d) a)
 
-  is-4 : noDay K y m d ≡ true → OfDate K y m d 4
+  is-4 : noDay K y m d ≡ true → OfDate K y m d w 4
   is-4 e = either (eqb d 0) (ltb (lengthIn K y m) d) e (λ f. day-0 (eqb-true d 0 f)) (λ f. beyond-month (ltb-true (lengthIn K y m) d f))
 
-  not-4 : noDay K y m d ≡ false → ¬ OfDate K y m d 4
+  not-4 : noDay K y m d ≡ false → ¬ OfDate K y m d w 4
   not-4 e (its-year a) = omega (arith, only-2 K y a)
   not-4 e (day-0 f) = eqb-false d 0 (neither (eqb d 0) (ltb (lengthIn K y m) d) e .0) f
   not-4 e (beyond-month f) = omega (arith, ltb-false (lengthIn K y m) d (neither (eqb d 0) (ltb (lengthIn K y m) d) e .1))
   not-4 e (its-day a) = omega (arith, from-5 K (dayNumber K y m d) a)
 
   -- 5 and 17 only as to its day
-  of-day : {k : ℕ} → 5 ≤ k → OfDate K y m d k → OfDay K (dayNumber K y m d) k
-  of-day h (its-year a) = absurd (omega (arith, only-2 K y a))
-  of-day h (month-0 f) = absurd (omega arith)
-  of-day h (above-positions f) = absurd (omega arith)
-  of-day h (no-days f) = absurd (omega arith)
-  of-day h (day-0 f) = absurd (omega arith)
-  of-day h (beyond-month f) = absurd (omega arith)
-  of-day h (its-day a) = a
+  of-day : {k : ℕ} → 5 ≤ k → ¬ (k ≡ 13) → OfDate K y m d w k → OfDay K (dayNumber K y m d) k
+  of-day h n (its-year a) = absurd (omega (arith, only-2 K y a))
+  of-day h n (month-0 f) = absurd (omega arith)
+  of-day h n (above-positions f) = absurd (omega arith)
+  of-day h n (no-days f) = absurd (omega arith)
+  of-day h n (day-0 f) = absurd (omega arith)
+  of-day h n (beyond-month f) = absurd (omega arith)
+  of-day h n (its-day a) = a
+  of-day h n (other-weekday f) = absurd (n refl)
 
   -- 1 does not apply
-  pub not-1 : ¬ OfDate K y m d 1
+  pub not-1 : ¬ OfDate K y m d w 1
   not-1 (its-year a) = omega (arith, only-2 K y a)
   not-1 (its-day a) = omega (arith, from-5 K (dayNumber K y m d) a)
 
-  pub day-given : Given (OfDate K y m d) dateOrder (dayFor K y m d .number)
+  -- the numbers before 13
+  rest-given : Given (OfDate K y m d w) (2 ∷ 3 ∷ 4 ∷ 17 ∷ 5 ∷ []) (dayFor K y m d .number)
   unfolding dayFor
-  day-given =
+  rest-given =
       let n = dayNumber K y m d in
-      let try = tried (λ (a : DayAnswer). a .number) (OfDate K y m d) in
+      let try = tried (λ (a : DayAnswer). a .number) (OfDate K y m d w) in
       try _ (yearOut K y) (noDayAnswer 2) _ (λ e. its-year (is-2 K y e)) date-not-2
       (try _ (noMonth K y m) (noDayAnswer 3) _ is-3 not-3
       (try _ (noDay K y m d) (noDayAnswer 4) _ is-4 not-4
-      (try _ (ended K n) (noDayAnswer 17) _ (λ e. its-day (is-17 K n e)) (λ e a. not-17 K n e (of-day (omega arith) a))
-      (try _ (dayOut K n) (noDayAnswer 5) _ (λ e. its-day (is-5 K n e)) (λ e a. not-5 K n e (of-day (omega arith) a)) done))))
+      (try _ (ended K n) (noDayAnswer 17) _ (λ e. its-day (is-17 K n e)) (λ e a. not-17 K n e (of-day (omega arith) (omega arith) a))
+      (try _ (dayOut K n) (noDayAnswer 5) _ (λ e. its-day (is-5 K n e)) (λ e a. not-5 K n e (of-day (omega arith) (omega arith) a)) done))))
+
+  -- 13 is not one of them
+  pub rest-not-13 : ¬ (dayFor K y m d .number ≡ 13)
+  rest-not-13 =
+      one-of (λ (k : ℕ). ¬ (k ≡ 13)) (λ e. omega arith)
+      ((λ e. omega arith), ((λ e. omega arith), ((λ e. omega arith), ((λ e. omega arith), ((λ e. omega arith), tt))))) rest-given
+
+  -- it applies exactly where the weekday does not fit
+  not-13 : FitsDay w (dayNumber K y m d) → ¬ OfDate K y m d w 13
+  not-13 f (its-year a) = omega (arith, only-2 K y a)
+  not-13 f (its-day a) = no-13 K (dayNumber K y m d) a
+  not-13 f (other-weekday n) = n f
+
+  pub day-given : Given (OfDate K y m d w) dateOrder (dayWith K y m d w .number)
+  day-given =
+      let x = dayFor K y m d in
+      appended ((λ e. omega arith), ((λ e. omega arith), ((λ e. omega arith), ((λ e. omega arith), ((λ e. omega arith), tt))))) rest-given
+      (λ e. weekday (day-is K y m d e) (W.tried w x) e)
+      (λ n. ap (λ (a : DayAnswer). a .number) (W.refused w x n))
+    where
+      weekday : dayFor K y m d .day ≡ dayNumber K y m d
+          → ((dayWith K y m d w ≡ noDayAnswer 13) × (dayFor K y m d .number ≡ 0) × ¬ FitsDay w (dayFor K y m d .day))
+          ⊎ ((dayWith K y m d w ≡ dayFor K y m d) × (dayFor K y m d .number ≡ 0 → FitsDay w (dayFor K y m d .day)))
+          → dayFor K y m d .number ≡ 0
+          → Given (OfDate K y m d w) (13 ∷ []) (dayWith K y m d w .number)
+      weekday g (inl t) e = rw (t .0) (first (other-weekday (λ f. t .2 (rw g f))))
+      weekday g (inr t) e = rw (t .0, e) (later (not-13 (rw g at (t .1 e))) done)

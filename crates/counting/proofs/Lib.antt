@@ -2,6 +2,7 @@ pub mod Totals
 pub mod Counting
 pub mod Signs
 pub mod Starts
+pub mod Weekdays
 pub mod Given
 pub mod Rounds
 pub mod Ends

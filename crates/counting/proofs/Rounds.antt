@@ -16,11 +16,12 @@ use Rattle.counting.specs.Calendar.{total, Date, Valid, len, firstFrom, 
 use Rattle.counting.specs.Calendar.Before.{by-year as before-by-year, by-month as before-by-month, by-day as before-by-day}
 use Rattle.counting.specs.Years.{yearAt, yearsFrom}
 use Rattle.counting.specs.Answers.{Calendar, years, DayAnswer, DateAnswer, lastDay, lastYear, yearOut, lengthIn, monthZero, noDaysThatYear, noMonth}
-use Rattle.counting.specs.Answers.{noDay, dayOut, after, ended, dayNumber, dateOn, dated, noDayAnswer, noDateAnswer, dayFor, dateFor, IsDate, lastWith, lastOf}
+use Rattle.counting.specs.Answers.{noDay, dayOut, after, ended, dayNumber, dateOn, yearOn, theDate, dated, noDayAnswer, noDateAnswer, dayFor, dateFor, IsDate, lastWith, lastOf}
+use Rattle.counting.specs.Answers.{weekdayOf, Proper}
 use Rattle.counting.specs.Order.{Earlier}
 use Rattle.counting.specs.Order.Earlier.{by-year, by-month, by-day}
 use Rattle.basics.proofs.Cases.{neither}
-use Rattle.counting.proofs.Given.{passed}
+use Rattle.counting.proofs.Given.{passed, none-applies, day-is}
 use Rattle.counting.proofs.Signs.{year-back, place-back, not-before, order-kept}
 use Rattle.counting.proofs.Counting.{date-is, counted, orders-agree}
 
@@ -138,24 +139,17 @@ module _ (K : Calendar) where
         ) refl
 
     pub accepted : dayFor K y m d .number ≡ 0 → Accepted K y m d (dayFor K y m d .day)
-    unfolding dayFor
     accepted e =
         let n = dayNumber K y m d in
-        let through = passed (λ (a : DayAnswer). a .number) in
-        let q = through (yearOut K y) (noDayAnswer 2) _ (omega arith) e in
-        let r = through (noMonth K y m) (noDayAnswer 3) _ (omega arith) (q .1) in
-        let s = through (noDay K y m d) (noDayAnswer 4) _ (omega arith) (r .1) in
-        let t = through (ended K n) (noDayAnswer 17) _ (omega arith) (s .1) in
-        let u = through (dayOut K n) (noDayAnswer 5) _ (omega arith) (t .1) in
-        let N = neither (ltb lastDay n) (ltb n (K .firstDay)) (u .0) in
-        rw (q .0, r .0, s .0, t .0, u .0)
-        (record { stands = stands (q .0) (r .0) (s .0); small = in-last (K .end) (ltb-false lastDay n (N .0)) (t .0) })
+        let t = none-applies K y m d e in
+        let N = neither (ltb lastDay n) (ltb n (K .firstDay)) (t .4) in
+        rw (day-is K y m d e) (record { stands = stands (t .0) (t .1) (t .2); small = in-last (K .end) (ltb-false lastDay n (N .0)) (t .3) })
 
     pub accept : (n : ℕ) → Accepted K y m d n → dayFor K y m d ≡ record { number = 0; day = n }
     accept n a = let w = last-in (K .end) (a .small) in stand n (a .stands) ∙ rw (w .1, le-ltb lastDay n (w .0)) refl
 
   -- a day that is answered
-  pub answered : (n : ℕ) → K .firstDay ≤ n → n ≤ lastOf K → dateFor K n ≡ dated K (dateOn K n)
+  pub answered : (n : ℕ) → K .firstDay ≤ n → n ≤ lastOf K → dateFor K n ≡ dated K (dateOn K n) (weekdayOf n)
   unfolding dateFor
   answered n f k = let w = last-in (K .end) k in rw (le-ltb lastDay n (w .0), le-ltb n (K .firstDay) f, w .1) refl
 
@@ -186,52 +180,55 @@ module _ (K : Calendar) (has-days : (i : ℕ) → 1 ≤ total (years K i)) where
       (omega (arith, a .number), date-is (years K) has-days (n - K .firstDay) (counting K y m d) (a .valid) (omega (arith, a .number)))
 
   -- so its day has that date
-  pub there-and-back : (y : ℤ) (m d n : ℕ) → Accepted K y m d n → dateFor K n ≡ record { number = 0; year = y; month = m; day = d }
+  pub there-and-back : (y : ℤ) (m d n : ℕ) → Accepted K y m d n → dateFor K n ≡ theDate y m d (weekdayOf n)
   there-and-back y m d n a =
       let r = reached y m d n (a .stands) in
       answered K n (r .0) (a .small) ∙ rw (r .1, year-back (K .firstYear) y (a .stands .from-first)) refl
 
   -- and a day's date has that day, if its year is not above the last
-  pub on-day : (n : ℕ) → K .firstDay ≤ n → ltZ lastYear (dated K (dateOn K n) .year) ≡ false
-      → let x = dated K (dateOn K n) in Stands K (x .year) (x .month) (x .day) n
+  pub on-day : (n : ℕ) → K .firstDay ≤ n → ltZ lastYear (yearOn K n) ≡ false
+      → let x = dated K (dateOn K n) (weekdayOf n) in Stands K (x .year) (x .month) (x .day) n
   on-day n f l =
       let D = dateOn K n in
       let g = counted (years K) has-days (n - K .firstDay) in
       let i = place-back (K .firstYear) (D .year) in
       record { from-first = not-before (K .firstYear) (D .year); to-last = l; valid = rw i (g .0); number = rw i (omega (arith, g .1)) }
 
-  pub back-and-there : (n : ℕ) → K .firstDay ≤ n → n ≤ lastOf K → ltZ lastYear (dated K (dateOn K n) .year) ≡ false
-      → let x = dated K (dateOn K n) in Accepted K (x .year) (x .month) (x .day) n
+  pub back-and-there : (n : ℕ) → K .firstDay ≤ n → n ≤ lastOf K → ltZ lastYear (yearOn K n) ≡ false
+      → let x = dated K (dateOn K n) (weekdayOf n) in Accepted K (x .year) (x .month) (x .day) n
   back-and-there n f k l = record { stands = on-day n f l; small = k }
 
   -- a date exists exactly where counting reaches it, in a year not above the last
   pub exists-counted : (y : ℤ) (m d : ℕ) → IsDate K y m d
-      ↔ ((ltZ lastYear y ≡ false) × ((n : ℕ) × (K .firstDay ≤ n) × (dated K (dateOn K n) ≡ record { number = 0; year = y; month = m; day = d })))
+      ↔ ((ltZ lastYear y ≡ false) × ((n : ℕ) × (K .firstDay ≤ n) × (dated K (dateOn K n) (weekdayOf n) ≡ theDate y m d (weekdayOf n))))
   exists-counted y m d = (to, from)
     where
-      to : IsDate K y m d → (ltZ lastYear y ≡ false) × ((n : ℕ) × (K .firstDay ≤ n) × (dated K (dateOn K n) ≡ record { number = 0; year = y; month = m; day = d }))
+      to : IsDate K y m d → (ltZ lastYear y ≡ false) × ((n : ℕ) × (K .firstDay ≤ n) × (dated K (dateOn K n) (weekdayOf n) ≡ theDate y m d (weekdayOf n)))
       to x =
           let a = date-stands K y m d x in
           let r = reached y m d (dayNumber K y m d) a in
           (a .to-last, (dayNumber K y m d, r .0, rw (r .1, year-back (K .firstYear) y (a .from-first)) refl))
 
-      from : (ltZ lastYear y ≡ false) × ((n : ℕ) × (K .firstDay ≤ n) × (dated K (dateOn K n) ≡ record { number = 0; year = y; month = m; day = d }))
+      from : (ltZ lastYear y ≡ false) × ((n : ℕ) × (K .firstDay ≤ n) × (dated K (dateOn K n) (weekdayOf n) ≡ theDate y m d (weekdayOf n)))
           → IsDate K y m d
       from p =
           let e = p .1 .2 in
           let l = ap (λ (a : DateAnswer). ltZ lastYear (a .year)) e ∙ p .0 in
           subst (λ (a : DateAnswer). IsDate K (a .year) (a .month) (a .day)) e (exists K _ _ _ (on-day (p .1 .0) (p .1 .1) l))
 
--- where each way undoes the other, a date is given a day exactly where a day is given that date
-pub given-exactly : (day : ℤ → ℕ → ℕ → DayAnswer) (date : ℕ → DateAnswer)
-    → ((y : ℤ) (m d : ℕ) → day y m d .number ≡ 0 → date (day y m d .day) ≡ record { number = 0; year = y; month = m; day = d })
-    → ((n : ℕ) → date n .number ≡ 0 → let x = date n in day (x .year) (x .month) (x .day) ≡ record { number = 0; day = n })
-    → (y : ℤ) (m d : ℕ) → (day y m d .number ≡ 0) ↔ ((n : ℕ) × (date n ≡ record { number = 0; year = y; month = m; day = d }))
-given-exactly day date there back y m d =
-    let asked : DateAnswer → ℕ = λ x. day (x .year) (x .month) (x .day) .number in (
-      (λ e. (day y m d .day, there y m d e)),
-      λ x. sym (ap asked (x .1)) ∙ ap (λ (a : DayAnswer). a .number) (back (x .0) (ap (λ (a : DateAnswer). a .number) (x .1))),
-    )
+-- a date that is given a day, to its day and back, and a day that is given a date, to its date and back
+module _ (K : Calendar) (p : Proper K) where
+  pub there : (y : ℤ) (m d : ℕ) → dayFor K y m d .number ≡ 0 → let n = dayFor K y m d .day in dateFor K n ≡ theDate y m d (weekdayOf n)
+  there y m d e = there-and-back K (p .has-days) y m d (dayFor K y m d .day) (accepted K y m d e)
+
+  pub back : (n : ℕ) → dateFor K n .number ≡ 0
+      → let x = dateFor K n in (dayFor K (x .year) (x .month) (x .day) ≡ record { number = 0; day = n }) × (x .weekday ≡ weekdayOf n)
+  back n e =
+      let g = given-date K n e in
+      let x = dated K (dateOn K n) (weekdayOf n) in
+      let a = accept K (x .year) (x .month) (x .day) n (back-and-there K (p .has-days) n (g .0) (g .1) (p .in-time n (last-in (K .end) (g .1) .0))) in
+      let r = answered K n (g .0) (g .1) in
+      (ap (λ (a : DateAnswer). dayFor K (a .year) (a .month) (a .day)) r ∙ a, ap (λ (a : DateAnswer). a .weekday) r)
 
 -- ---- order
 

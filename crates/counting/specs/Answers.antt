@@ -1,9 +1,10 @@
--- A calendar, and what it answers, by the table of docs/RULES.md, "Answer numbers": date to day tries 2, 3, 4, 17, 5; day to date 5, 17. (What it answers to a
--- position of a year: specs/Positions.antt.)
+-- A calendar, and what it answers, by the table of docs/RULES.md, "Answer numbers": date to day tries 2, 3, 4, 17, 5, 13; day to date 5, 17. (What it answers to
+-- a position of a year: specs/Positions.antt.)
 -- (1, a number that is no calendar's, is tried where calendars are looked up by number.) A refusal has its number, and 0 in all other fields.
-use Prim.Native.Nat.{ℕ, _+_, _-_, _≤_, min}
+use Prim.Native.Nat.{ℕ, _+_, _-_, _%_, _≤_, min}
 use mathlib.Core.Path.{_≡_}
-use mathlib.Core.Bool.{Bool, false, cond, _||_}
+use mathlib.Core.Bool.{Bool, false, cond, not, _&&_, _||_}
+use mathlib.Core.Logic.{_⊎_}
 use mathlib.Core.List.{List}
 use mathlib.Core.Option.{Option}
 use lib.Dec.{eqb, ltb}
@@ -35,12 +36,25 @@ pub record DateAnswer : Type 0 where
   pub year : ℤ
   pub month : ℕ
   pub day : ℕ
+  pub weekday : ℕ
 
 abbrev pub lastDay : ℕ
 lastDay = 5373484
 
 abbrev pub lastYear : ℤ
 lastYear = pos 20000
+
+-- the weekday of a day, 1 Monday to 7 Sunday: day 0 is a Monday
+abbrev pub weekdayOf : ℕ → ℕ
+weekdayOf n = n % 7 + 1
+
+-- the next weekday: after Sunday comes Monday (for the claims)
+abbrev pub nextWeekday : ℕ → ℕ
+nextWeekday w = cond (eqb w 7) 1 (w + 1)
+
+-- a weekday handed in that fits day n: 0, or the day's (for the claims)
+abbrev pub FitsDay : ℕ → ℕ → Type 0
+FitsDay w n = (w ≡ 0) ⊎ (w ≡ weekdayOf n)
 
 -- ---- when a number applies
 
@@ -83,6 +97,10 @@ after (Option.some e) n = ltb e n
 abbrev pub ended : Calendar → ℕ → Bool
 ended K n = after (K .end) n
 
+-- 13: weekday neither 0 nor the day's
+abbrev pub wrongWeekday : ℕ → ℕ → Bool
+wrongWeekday w n = not (eqb w 0 || eqb w (weekdayOf n))
+
 -- ---- date to day
 
 -- the day of a date that the calendar has
@@ -92,6 +110,7 @@ dayNumber K y m d = K .firstDay + dayOf (years K) (record { year = yearsFrom (K 
 abbrev pub noDayAnswer : ℕ → DayAnswer
 noDayAnswer k = record { number = k; day = 0 }
 
+-- of a date without a weekday
 unfoldable pub dayFor : Calendar → ℤ → ℕ → ℕ → DayAnswer
 dayFor K y m d =
     cond (yearOut K y) (noDayAnswer 2)
@@ -101,23 +120,39 @@ dayFor K y m d =
     (cond (dayOut K (dayNumber K y m d)) (noDayAnswer 5)
     (record { number = 0; day = dayNumber K y m d })))))
 
+-- 13 is tried last, where the rest is accepted
+unfoldable pub weekdayTried : ℕ → DayAnswer → DayAnswer
+weekdayTried w x = cond (eqb (x .number) 0 && wrongWeekday w (x .day)) (noDayAnswer 13) x
+
+-- of a date with weekday w, or 0
+abbrev pub dayWith : Calendar → ℤ → ℕ → ℕ → ℕ → DayAnswer
+dayWith K y m d w = weekdayTried w (dayFor K y m d)
+
 -- ---- day to date: the date that counting one by one from the calendar's first day reaches
 
 abbrev pub dateOn : Calendar → ℕ → Date
 dateOn K n = dateAt (years K) (n - K .firstDay)
 
--- a date whose year is counted from the first, as an answer
-abbrev pub dated : Calendar → Date → DateAnswer
-dated K D = record { number = 0; year = yearAt (K .firstYear) (D .year); month = D .month; day = D .day }
+-- its year
+abbrev pub yearOn : Calendar → ℕ → ℤ
+yearOn K n = yearAt (K .firstYear) (dateOn K n .year)
+
+-- a date with its weekday, as an answer
+abbrev pub theDate : ℤ → ℕ → ℕ → ℕ → DateAnswer
+theDate y m d w = record { number = 0; year = y; month = m; day = d; weekday = w }
+
+-- one whose year is counted from the first
+abbrev pub dated : Calendar → Date → ℕ → DateAnswer
+dated K D w = theDate (yearAt (K .firstYear) (D .year)) (D .month) (D .day) w
 
 abbrev pub noDateAnswer : ℕ → DateAnswer
-noDateAnswer k = record { number = k; year = pos 0; month = 0; day = 0 }
+noDateAnswer k = record { number = k; year = pos 0; month = 0; day = 0; weekday = 0 }
 
 unfoldable pub dateFor : Calendar → ℕ → DateAnswer
 dateFor K n =
     cond (dayOut K n) (noDateAnswer 5)
     (cond (ended K n) (noDateAnswer 17)
-    (dated K (dateOn K n)))
+    (dated K (dateOn K n) (weekdayOf n)))
 
 -- y/m/d is a date of the calendar: 2, 3 and 4 do not apply
 pub record IsDate (K : Calendar) (y : ℤ) (m d : ℕ) : Type 0 where
@@ -138,4 +173,4 @@ lastOf K = lastWith (K .end)
 
 pub record Proper (K : Calendar) : Type 0 where
   pub has-days : (i : ℕ) → 1 ≤ total (years K i)
-  pub in-time : (n : ℕ) → n ≤ lastDay → ltZ lastYear (dated K (dateOn K n) .year) ≡ false
+  pub in-time : (n : ℕ) → n ≤ lastDay → ltZ lastYear (yearOn K n) ≡ false

@@ -8,7 +8,7 @@ use mathlib.Core.Option.{Option}
 use lib.IntN.{ℤ, pos}
 use lib.ListN.{length}
 use lib.Signed.{ltZ}
-use Rattle.counting.specs.Answers.{Calendar, lengthIn, dayNumber}
+use Rattle.counting.specs.Answers.{Calendar, FitsDay, lengthIn, dayNumber}
 
 -- numbers are tried in an order: the first that applies is given; 0, done, where none does
 pub data Given (Applies : ℕ → Type 0) : List ℕ → ℕ → Type 0 where
@@ -18,7 +18,7 @@ pub data Given (Applies : ℕ → Type 0) : List ℕ → ℕ → Type 0 where
 
 -- the orders
 abbrev pub dateOrder : List ℕ
-dateOrder = 2 ∷ 3 ∷ 4 ∷ 17 ∷ 5 ∷ []
+dateOrder = 2 ∷ 3 ∷ 4 ∷ 17 ∷ 5 ∷ 13 ∷ []
 
 abbrev pub dayOrder : List ℕ
 dayOrder = 5 ∷ 17 ∷ []
@@ -40,19 +40,21 @@ pub data OfYear (K : Calendar) (y : ℤ) : ℕ → Type 0 where
   below-first : ltZ y (K .firstYear) ≡ true → OfYear K y 2
   above-20000 : ltZ (pos 20000) y ≡ true → OfYear K y 2
 
--- to the date y/m/d
-pub data OfDate (K : Calendar) (y : ℤ) (m d : ℕ) : ℕ → Type 0 where
+-- to the date y/m/d with weekday w
+pub data OfDate (K : Calendar) (y : ℤ) (m d w : ℕ) : ℕ → Type 0 where
   -- 2, as to its year
-  its-year : {k : ℕ} → OfYear K y k → OfDate K y m d k
+  its-year : {k : ℕ} → OfYear K y k → OfDate K y m d w k
   -- 3: month 0, above the positions, or of no days that year
-  month-0 : m ≡ 0 → OfDate K y m d 3
-  above-positions : length (K .lengths y) < m → OfDate K y m d 3
-  no-days : lengthIn K y m ≡ 0 → OfDate K y m d 3
+  month-0 : m ≡ 0 → OfDate K y m d w 3
+  above-positions : length (K .lengths y) < m → OfDate K y m d w 3
+  no-days : lengthIn K y m ≡ 0 → OfDate K y m d w 3
   -- 4: day 0 or beyond the month
-  day-0 : d ≡ 0 → OfDate K y m d 4
-  beyond-month : lengthIn K y m < d → OfDate K y m d 4
+  day-0 : d ≡ 0 → OfDate K y m d w 4
+  beyond-month : lengthIn K y m < d → OfDate K y m d w 4
   -- 5 and 17, as to its day
-  its-day : {k : ℕ} → OfDay K (dayNumber K y m d) k → OfDate K y m d k
+  its-day : {k : ℕ} → OfDay K (dayNumber K y m d) k → OfDate K y m d w k
+  -- 13: weekday neither 0 nor the day's
+  other-weekday : ¬ FitsDay w (dayNumber K y m d) → OfDate K y m d w 13
 
 -- to position m of year y
 pub data OfPosition (K : Calendar) (y : ℤ) (m : ℕ) : ℕ → Type 0 where

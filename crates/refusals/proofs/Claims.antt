@@ -9,7 +9,7 @@ use borrow.Author.Tests.{ne-eqb}
 use Rattle.refusals.specs.declared.Refusal.{Refusal}
 use Rattle.refusals.specs.declared.Refusal.the-variants.{UnknownCalendar, YearOutOfRange, NoSuchMonth, NoSuchDay, DayOutOfRange}
 use Rattle.refusals.specs.declared.Refusal.the-variants.{CodeOutOfLimits, NoLine, MalformedFrame, WrongDay, LineOutOfLimits, BufferTooShort}
-use Rattle.refusals.specs.declared.Refusal.the-variants.{CalendarEnded}
+use Rattle.refusals.specs.declared.Refusal.the-variants.{WrongWeekday, CalendarEnded}
 use Rattle.refusals.specs.Number.{numberOf}
 
 all : List Refusal
@@ -25,6 +25,7 @@ all =
     ∷ WrongDay
     ∷ LineOutOfLimits
     ∷ BufferTooShort
+    ∷ WrongWeekday
     ∷ CalendarEnded
     ∷ []
 
@@ -46,6 +47,7 @@ back MalformedFrame = (refl, omega arith)
 back WrongDay = (refl, omega arith)
 back LineOutOfLimits = (refl, omega arith)
 back BufferTooShort = (refl, omega arith)
+back WrongWeekday = (refl, omega arith)
 back CalendarEnded = (refl, omega arith)
 
 -- no refusal has the number 0, which is that of an answer

@@ -4,7 +4,7 @@ use Prim.Native.Nat.{ℕ}
 use Rattle.refusals.specs.declared.Refusal.{Refusal}
 use Rattle.refusals.specs.declared.Refusal.the-variants.{UnknownCalendar, YearOutOfRange, NoSuchMonth, NoSuchDay, DayOutOfRange}
 use Rattle.refusals.specs.declared.Refusal.the-variants.{CodeOutOfLimits, NoLine, MalformedFrame, WrongDay, LineOutOfLimits, BufferTooShort}
-use Rattle.refusals.specs.declared.Refusal.the-variants.{CalendarEnded}
+use Rattle.refusals.specs.declared.Refusal.the-variants.{WrongWeekday, CalendarEnded}
 
 abbrev pub numberOf : Refusal → ℕ
 numberOf UnknownCalendar = 1
@@ -18,6 +18,7 @@ numberOf MalformedFrame = 8
 numberOf WrongDay = 9
 numberOf LineOutOfLimits = 10
 numberOf BufferTooShort = 11
+numberOf WrongWeekday = 13
 numberOf CalendarEnded = 17
 
 -- an answer number that is a refusal's

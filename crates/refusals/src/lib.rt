@@ -14,6 +14,7 @@ pub enum Refusal {
     WrongDay,
     LineOutOfLimits,
     BufferTooShort,
+    WrongWeekday,
     CalendarEnded,
 }
 
@@ -33,6 +34,7 @@ pub fn number(why: Refusal) -> u8
         Refusal::WrongDay => 9,
         Refusal::LineOutOfLimits => 10,
         Refusal::BufferTooShort => 11,
+        Refusal::WrongWeekday => 13,
         Refusal::CalendarEnded => 17,
     }
 }

@@ -3,9 +3,9 @@ use mathlib.Core.Path.{_≡_, refl}
 use mathlib.Core.List.{List, [], _∷_, _++_}
 use Prim.Native.Nat.{ℕ}
 use Rattle.counting.specs.Calendar.{total, start, dayOf}
-use Rattle.counting.specs.Answers.{years, dayFor}
+use Rattle.counting.specs.Answers.{years, dayFor, weekdayTried}
 use Rattle.calendar_rules.specs.Calendars.{lookup, calendar}
-use Rattle.calendar_rules.specs.Answers.{dayAnswer}
+use Rattle.calendar_rules.specs.Answers.{dayAnswerWith}
 use Rattle.hex.specs.Digits.{digitOf, allDigits, sixteenDigits, numberFrom, field, writtenIn}
 use Rattle.frames.specs.Frame.{fieldsOf}
 use Rattle.streaming.specs.Lines.{linesOf, replies}
@@ -25,7 +25,7 @@ output = 48 ∷ 48 ∷ 10 ∷ 48 ∷ 57 ∷ 10 ∷ 48 ∷ 56 ∷ 10 ∷ []
 
 pub example : sheetOf input ≡ output
 unfolding sheetOf linesOf replies twoDigits writtenIn verdictOf verdictOn fieldsOf against sixteenDigits allDigits digitOf numberFrom field
-    dayAnswer calendar lookup dayFor years dayOf start total
+    dayAnswerWith calendar lookup dayFor weekdayTried years dayOf start total
 example = refl
 
 -- 071276040a24538f, 071276040b245390, 071276040b000000: the last Republican date, and the date after it with the day after and with another
@@ -41,5 +41,5 @@ endOutput = 48 ∷ 48 ∷ 10 ∷ 49 ∷ 49 ∷ 10 ∷ 49 ∷ 49 ∷ 10 ∷ []
 
 pub end-example : sheetOf endInput ≡ endOutput
 unfolding sheetOf linesOf replies twoDigits writtenIn verdictOf verdictOn fieldsOf against sixteenDigits allDigits digitOf numberFrom field
-    dayAnswer calendar lookup dayFor years dayOf start total
+    dayAnswerWith calendar lookup dayFor weekdayTried years dayOf start total
 end-example = refl

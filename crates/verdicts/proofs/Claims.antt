@@ -25,8 +25,8 @@ others : (f : Frame) → (answerFor f .number ≡ 8 → ⊥) × (answerFor f .nu
 others f =
     let k = answerFor f .number in
     let e = neither (eqb k 8) (eqb k 9)
-    (one-of (λ (k : ℕ). (eqb k 8 || eqb k 9) ≡ false) refl (refl, (refl, (refl, (refl, (refl, (refl, tt))))))
-    (R.day-number (f .calendar) (yearOf f) (f .month) (f .day) k .0 refl)) in
+    (one-of (λ (k : ℕ). (eqb k 8 || eqb k 9) ≡ false) refl (refl, (refl, (refl, (refl, (refl, (refl, (refl, tt)))))))
+    (R.day-number (f .calendar) (yearOf f) (f .month) (f .day) 0 k .0 refl)) in
     (eqb-false k 8 (e .0), eqb-false k 9 (e .1))
 
 module _ (line : List ℕ) where

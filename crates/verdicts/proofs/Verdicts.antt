@@ -1,5 +1,5 @@
 -- The verdict on a line, case by case: of another length, with another byte than a digit, and a frame.
-use mathlib.Core.Path.{_≡_, refl, ap}
+use mathlib.Core.Path.{_≡_, refl, sym, ap, _∙_}
 use mathlib.Core.List.{List}
 use mathlib.Core.Bool.{Bool, true, false, _||_}
 use mathlib.Core.Option.{Option}
@@ -15,7 +15,8 @@ use Rattle.refusals.specs.declared.Refusal.{Refusal}
 use Rattle.refusals.proofs.Claims.{not-zero}
 use Rattle.counting.specs.Answers.{Calendar, lastYear, noDayAnswer, dayFor}
 use Rattle.calendar_rules.specs.Calendars.{calendar}
-use Rattle.calendar_rules.specs.Answers.{ofListed, dayAnswer}
+use Rattle.calendar_rules.specs.Answers.{ofListed, dayAnswer, dayAnswerWith}
+use Rattle.calendar_rules.proofs.Claims.{no-weekday}
 use Rattle.hex.specs.Digits.{sixteenDigits}
 use Rattle.frames.specs.Frame.{fieldsOf}
 use Rattle.verdicts.specs.Verdict.{against, verdictOn, verdictOf}
@@ -66,9 +67,13 @@ late : (n : ℕ) → 65535 < n → ltZ lastYear (pos n -ℤ pos 4712) ≡ true
 late n h = rw (le-ltb n 4712 (omega arith)) (lt-ltb 20000 (n - 4712) (omega arith))
 
 -- so a field of more than four digits may be read as 65536
-pub field-held : (c n m d : ℕ) → dayAnswer c (pos (min n 65536) -ℤ pos 4712) m d ≡ dayAnswer c (pos n -ℤ pos 4712) m d
+field-held : (c n m d : ℕ) → dayAnswer c (pos (min n 65536) -ℤ pos 4712) m d ≡ dayAnswer c (pos n -ℤ pos 4712) m d
 field-held c n m d = go (decLt n 65536)
   where
     go : Dec (n < 65536) → dayAnswer c (pos (min n 65536) -ℤ pos 4712) m d ≡ dayAnswer c (pos n -ℤ pos 4712) m d
     go (yes h) = let e : min n 65536 ≡ n = omega arith in ap (λ (k : ℕ). dayAnswer c (pos k -ℤ pos 4712) m d) e
     go (no h) = let e : min n 65536 ≡ 65536 = omega arith in late-alike c _ _ m d (rw e (late 65536 (omega arith))) (late n (omega arith))
+
+-- without a weekday
+pub held : (c n m d : ℕ) → dayAnswerWith c (pos (min n 65536) -ℤ pos 4712) m d 0 ≡ dayAnswerWith c (pos n -ℤ pos 4712) m d 0
+held c n m d = no-weekday c _ m d ∙ field-held c n m d ∙ sym (no-weekday c _ m d)

@@ -5,7 +5,7 @@ use Prim.Native.Nat.{ℕ}
 use lib.Dec.{eqb}
 use Rattle.refusals.specs.Number.{numberOf}
 use Rattle.counting.specs.Answers.{DayAnswer}
-use Rattle.calendar_rules.specs.Answers.{dayAnswer}
+use Rattle.calendar_rules.specs.Answers.{dayAnswerWith}
 use Rattle.hex.specs.Digits.{sixteenDigits}
 use Rattle.frames.specs.declared.Frame.{Frame}
 use Rattle.frames.specs.Frame.{fieldsOf, yearOf}
@@ -17,9 +17,9 @@ abbrev pub verdictNumber : Verdict → ℕ
 verdictNumber Right = 0
 verdictNumber (Refused why) = numberOf why
 
--- what date to day answers for the date of a frame
+-- what date to day answers for the date of a frame, which has no weekday
 abbrev pub answerFor : Frame → DayAnswer
-answerFor f = dayAnswer (f .calendar) (yearOf f) (f .month) (f .day)
+answerFor f = dayAnswerWith (f .calendar) (yearOf f) (f .month) (f .day) 0
 
 -- that answer against the frame's day: the first number that applies, 9 where the date is good and the day differs
 unfoldable pub against : DayAnswer → ℕ → ℕ

@@ -44,6 +44,7 @@ pub fn judge_frame(f: Frame) -> Verdict
         year: year_of(f.year),
         month: f.month,
         day: f.day,
+        weekday: 0,
     };
     match calendars::date_to_day(f.calendar, date) {
         Day::Number(day) => {

@@ -12,7 +12,7 @@ packed-day-requires c κs = search needs
 returns : tie.Need-returns
 returns c =
     let s = c .before in
-    fields (s .args .calendar) (s .args .year) (s .args .month) (s .args .day) (c .packed-day .result)
+    fields (s .args .calendar) (s .args .year) (s .args .month) (s .args .day) (s .args .weekday) (c .packed-day .result)
     (rw (toZ-ofZ w64 (s .args .year) (s .fits .year)) at (c .packed-day .ensures))
 
 pub ijok-date-to-day-spec : {M : Type 1} → statement M

@@ -13,6 +13,9 @@ place-requires c κs = search needs
 no-date-requires : tie.Need-no-date-requires
 no-date-requires c κs = let p = c .before .before in sym (p .place .ensures .month) ∙ c .if1 .taken
 
+weekday-of-requires : tie.Need-weekday-of-requires
+weekday-of-requires c κs = search needs
+
 returns : tie.Need-returns
 returns c =
     c .no-date .ensures
@@ -25,8 +28,9 @@ returns-2 c =
     let n = c .before .if1 .left in
     let z = date-given (s .args .calendar) (s .args .day) (λ e. n (f .month ∙ e)) in
     let g = f .rest n in
+    let w = c .weekday-of .ensures ∙ z .1 in
     rw (toZ-ofZ w64 (p .place .result .year) (record { sfits = c .struct-told .given .0 .1 }))
-    (λ i. record { number = z i; year = g .0 i; month = f .month i; day = g .1 i })
+    (λ i. record { number = z .0 i; year = g .0 i; month = f .month i; day = g .1 i; weekday = w i })
 
 pub day-to-date-spec : {M : Type 1} → statement M
 day-to-date-spec = tie.close (tie.spec place-requires no-date-requires returns returns-2)

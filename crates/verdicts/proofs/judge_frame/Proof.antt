@@ -11,7 +11,7 @@ use Rattle.frames.proofs.Years.{small}
 use Rattle.calendars.specs.Paper.{dayPaper}
 use Rattle.calendars.specs.declared.Day.{Day}
 use Rattle.verdicts.specs.Verdict.{against, verdictOn}
-use Rattle.verdicts.proofs.Verdicts.{same-day, other-day, refused, field-held}
+use Rattle.verdicts.proofs.Verdicts.{same-day, other-day, refused, held}
 use borrow.Author.Needs.{needs}
 use Rattle.verdicts.proofs.judge_frame.Statement.{statement}
 use Rattle.verdicts.proofs.judge_frame.Tie as tie
@@ -39,7 +39,7 @@ unfolding verdictOn
 answered c r e =
     let f = c .before .before .args .f in
     let day = rw (year (c .before)) at (c .date-to-day .ensures) in
-    ap (λ (x : DayAnswer). against x (f .number)) (sym (field-held (f .calendar) (f .year) (f .month) (f .day)) ∙ sym day ∙ ap dayPaper e)
+    ap (λ (x : DayAnswer). against x (f .number)) (sym (held (f .calendar) (f .year) (f .month) (f .day)) ∙ sym day ∙ ap dayPaper e)
 
 returns : tie.Need-returns
 returns c =
