@@ -49,7 +49,7 @@ returns-7 : tie.Need-returns-7
 returns-7 c = read (c .before) .2 12 (c .match .keys7)
 
 returns-8 : tie.Need-returns-8
-returns-8 c = let u = read (c .before) in u .2 16 (u .0 (omega (arith, c .match .rest)) (λ e. omega (arith, c .match .rest, e)))
+returns-8 c = let u = read (c .before) in let n = c .match .rest in u .2 16 (u .0 (omega (arith, n .0)) (n .1))
 
 pub date-to-day-spec : {M : Type 1} → statement M
 date-to-day-spec =

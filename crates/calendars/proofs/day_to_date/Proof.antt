@@ -22,15 +22,17 @@ returns c =
 
 returns-2 : tie.Need-returns-2
 returns-2 c =
-    let p = c .before .before .before in
+    let a = c .before in
+    let e = a .before in
+    let p = e .before .before in
     let s = p .before in
     let f = p .place .ensures in
-    let n = c .before .if1 .left in
+    let n = e .if1 .left in
     let z = date-given (s .args .calendar) (s .args .day) (λ e. n (f .month ∙ e)) in
     let g = f .rest n in
-    let w = c .weekday-of .ensures ∙ z .1 in
+    let w = a .weekday-of .ensures ∙ z .1 in
     rw (toZ-ofZ w64 (p .place .result .year) (record { sfits = c .struct-told .given .0 .1 }))
     (λ i. record { number = z .0 i; year = g .0 i; month = f .month i; day = g .1 i; weekday = w i })
 
 pub day-to-date-spec : {M : Type 1} → statement M
-day-to-date-spec = tie.close (tie.spec place-requires no-date-requires returns returns-2)
+day-to-date-spec = tie.close (tie.spec place-requires no-date-requires returns weekday-of-requires returns-2)
