@@ -91,8 +91,10 @@ const std::vector<Row> ROWS = {{1, "Egyptian", 1448638},  {2, "Armenian", 192286
 
 inline ijok_date chrono_date(uint64_t n) {
     std::chrono::year_month_day d{std::chrono::sys_days{std::chrono::days{int64_t(n) - EPOCH}}};
-    return {0, int(d.year()), unsigned(d.month()), unsigned(d.day())};
+    return {0, int(d.year()), unsigned(d.month()), unsigned(d.day()), 0};
 }
+
+inline unsigned chrono_weekday(uint64_t n) { return std::chrono::weekday{std::chrono::sys_days{std::chrono::days{int64_t(n) - EPOCH}}}.iso_encoding(); }
 
 inline ijok_day chrono_day(int64_t year, uint64_t month, uint64_t day) {
     std::chrono::year_month_day date{std::chrono::year{int(year)}, std::chrono::month{unsigned(month)}, std::chrono::day{unsigned(day)}};
@@ -111,7 +113,7 @@ __attribute__((noinline)) ijok_day chrono_day_called(int64_t year, uint64_t mont
 }
 
 // The same with the date checked, as ours checks it: 4 where the year has no such day, 5 past the last day.
-__attribute__((noinline)) ijok_day chrono_day_checked(int64_t year, uint64_t month, uint64_t day) {
+inline ijok_day checked(int64_t year, uint64_t month, uint64_t day) {
     if (year < -4712 || year > 20000) return {2, 0};
     if (month < 1 || month > 12) return {3, 0};
     std::chrono::year_month_day date{std::chrono::year{int(year)}, std::chrono::month{unsigned(month)}, std::chrono::day{unsigned(day)}};
@@ -121,9 +123,25 @@ __attribute__((noinline)) ijok_day chrono_day_checked(int64_t year, uint64_t mon
     return {0, n};
 }
 
+__attribute__((noinline)) ijok_day chrono_day_checked(int64_t year, uint64_t month, uint64_t day) { return checked(year, month, day); }
+
+// And both with the weekday: given with the date, and 13 where the one handed in is neither 0 nor the day's.
+__attribute__((noinline)) ijok_date chrono_date_with_weekday(uint64_t n) {
+    asm volatile("");
+    ijok_date date = chrono_date(n);
+    date.weekday = chrono_weekday(n);
+    return date;
+}
+
+__attribute__((noinline)) ijok_day chrono_day_with_weekday(int64_t year, uint64_t month, uint64_t day, uint64_t weekday) {
+    const ijok_day answer = checked(year, month, day);
+    if (answer.number == 0 && weekday != 0 && weekday != chrono_weekday(answer.day)) return {13, 0};
+    return answer;
+}
+
 // Every field of an answer is read.
 inline uint64_t sum(const ijok_day &x) { return x.number + x.day; }
-inline uint64_t sum(const ijok_date &x) { return x.number + uint64_t(x.year) + x.month + x.day; }
+inline uint64_t sum(const ijok_date &x) { return x.number + uint64_t(x.year) + x.month + x.day + x.weekday; }
 inline uint64_t sum(const ijok_line &x) { return x.number + x.a + x.b + x.r; }
 inline uint64_t sum(uint64_t x) { return x; }
 
@@ -136,29 +154,41 @@ std::function<uint64_t()> over(const std::vector<T> &inputs, F f) {
     };
 }
 
+// Random days of a calendar's range, their dates, and their Gregorian dates by chrono.
+struct Sample {
+    std::vector<uint64_t> days;
+    std::vector<ijok_date> dates, gregorian;
+};
+
+Sample sample(const Row &row, int count, Random &random) {
+    Sample s;
+    const uint64_t c = row.number;
+    for (int k = 0; k < count; ++k) {
+        uint64_t n = random.between(row.first_day, row.last_day);
+        ijok_date date = ijok_day_to_date(c, n), by_chrono = chrono_date_with_weekday(n);
+        s.days.push_back(n);
+        s.dates.push_back(date);
+        s.gregorian.push_back(by_chrono);
+        ijok_day back = ijok_date_to_day(c, date.year, date.month, date.day, 0), told = ijok_date_to_day(c, date.year, date.month, date.day, date.weekday);
+        if (date.number || back.number || back.day != n || told.number || told.day != n) std::printf("calendar %" PRIu64 " disagrees with itself on day %" PRIu64 "\n", c, n);
+        if (c == 11 && (date.year != by_chrono.year || date.month != by_chrono.month || date.day != by_chrono.day)) std::printf("chrono disagrees on day %" PRIu64 "\n", n);
+        if (date.weekday != by_chrono.weekday) std::printf("chrono disagrees on the weekday of day %" PRIu64 "\n", n);
+    }
+    return s;
+}
+
 void conversions() {
     constexpr int COUNT = 20000, ROUNDS = 201;
     std::printf("Conversions of %d random days of each calendar's range, medians of %d rounds, ns each; a ratio is the median of the rounds' ratios.\n", COUNT, ROUNDS);
-    std::printf("chrono: libstdc++'s std::chrono::year_month_day and sys_days on the same days (Gregorian), behind a call as ours is; date to day with the date checked.\n\n");
+    std::printf("chrono: libstdc++'s std::chrono::year_month_day and sys_days on the same days (Gregorian), behind a call as ours is; date to day with the date checked. Our dates have their weekday, chrono's here have not; none is handed in.\n\n");
     std::printf("| Calendar | day to date | chrono | ratio | date to day | chrono | ratio |\n|---|---|---|---|---|---|---|\n");
     std::vector<double> inlined_there, inlined_back, unchecked_back;
     Random random{1};
     for (const Row &row : ROWS) {
-        std::vector<uint64_t> days;
-        std::vector<ijok_date> dates, gregorian;
-        uint64_t c = row.number;
-        for (int k = 0; k < COUNT; ++k) {
-            uint64_t n = random.between(row.first_day, row.last_day);
-            days.push_back(n);
-            ijok_date date = ijok_day_to_date(c, n), by_chrono = chrono_date(n);
-            dates.push_back(date);
-            gregorian.push_back(by_chrono);
-            ijok_day back = ijok_date_to_day(c, date.year, date.month, date.day);
-            if (date.number || back.number || back.day != n) std::printf("calendar %" PRIu64 " disagrees with itself on day %" PRIu64 "\n", c, n);
-            if (c == 11 && (date.year != by_chrono.year || date.month != by_chrono.month || date.day != by_chrono.day)) std::printf("chrono disagrees on day %" PRIu64 "\n", n);
-        }
+        const uint64_t c = row.number;
+        const auto [days, dates, gregorian] = sample(row, COUNT, random);
         Race to_date{{over(days, [c](uint64_t n) { return ijok_day_to_date(c, n); }), over(days, [](uint64_t n) { return chrono_date_called(n); }), over(days, [](uint64_t n) { return chrono_date(n); })}};
-        Race to_day{{over(dates, [c](const ijok_date &d) { return ijok_date_to_day(c, d.year, d.month, d.day); }), over(gregorian, [](const ijok_date &d) { return chrono_day_checked(d.year, d.month, d.day); }),
+        Race to_day{{over(dates, [c](const ijok_date &d) { return ijok_date_to_day(c, d.year, d.month, d.day, 0); }), over(gregorian, [](const ijok_date &d) { return chrono_day_checked(d.year, d.month, d.day); }),
                      over(gregorian, [](const ijok_date &d) { return chrono_day(d.year, d.month, d.day); }), over(gregorian, [](const ijok_date &d) { return chrono_day_called(d.year, d.month, d.day); })}};
         auto there = to_date.medians(ROUNDS, COUNT), back = to_day.medians(ROUNDS, COUNT);
         inlined_there.push_back(there.times[2]);
@@ -169,6 +199,27 @@ void conversions() {
     }
     std::printf("\nchrono inlined in the loop: %.1f day to date, %.1f date to day; behind a call with nothing checked: %.1f date to day (medians over the rows).\n", middle(inlined_there), middle(inlined_back),
                 middle(unchecked_back));
+}
+
+// The same in three calendars with the weekday on both sides: the date's own is handed in.
+void weekdays() {
+    constexpr int COUNT = 20000, ROUNDS = 201;
+    std::printf("\nWith the weekday, on as many days: chrono gives it with the date too, and date to day has the right one handed in and compares it; none: ours with none handed in.\n\n");
+    std::printf("| Calendar | day to date | chrono | ratio | date to day | chrono | ratio | none | ratio |\n|---|---|---|---|---|---|---|---|---|\n");
+    Random random{5};
+    for (const Row &row : ROWS) {
+        const uint64_t c = row.number;
+        if (c != IJOK_GREGORIAN && c != IJOK_ISLAMIC_A && c != IJOK_HEBREW) continue;
+        const auto [days, dates, gregorian] = sample(row, COUNT, random);
+        Race to_date{{over(days, [c](uint64_t n) { return ijok_day_to_date(c, n); }), over(days, [](uint64_t n) { return chrono_date_with_weekday(n); })}};
+        Race to_day{{over(dates, [c](const ijok_date &d) { return ijok_date_to_day(c, d.year, d.month, d.day, d.weekday); }),
+                     over(gregorian, [](const ijok_date &d) { return chrono_day_with_weekday(d.year, d.month, d.day, d.weekday); }),
+                     over(dates, [c](const ijok_date &d) { return ijok_date_to_day(c, d.year, d.month, d.day, 0); })}};
+        auto there = to_date.medians(ROUNDS, COUNT), back = to_day.medians(ROUNDS, COUNT);
+        std::printf("| %s | %.1f | %.1f | %.2f | %.1f | %.1f | %.2f | %.1f | %.2f |\n", row.name, there.times[0], there.times[1], there.ratios[1], back.times[0], back.times[1], back.ratios[1],
+                    back.times[2], back.ratios[2]);
+        std::fflush(stdout);
+    }
 }
 
 // ---- the Hebrew calendar against libhdate, where it is installed
@@ -211,7 +262,7 @@ void hebrew() {
         return uint64_t(hdate_hdate_to_jd(d.day, d.month, d.year, &here, &next));
     };
     Race to_date{{over(days, [](uint64_t n) { return ijok_day_to_date(18, n); }), over(days, by_libhdate)}};
-    Race to_day{{over(dates, [](const HebrewDate &d) { return ijok_date_to_day(18, d.ours.year, d.ours.month, d.ours.day); }), over(dates, back_by_libhdate)}};
+    Race to_day{{over(dates, [](const HebrewDate &d) { return ijok_date_to_day(18, d.ours.year, d.ours.month, d.ours.day, 0); }), over(dates, back_by_libhdate)}};
     auto there = to_date.medians(ROUNDS, COUNT), back = to_day.medians(ROUNDS, COUNT);
     std::printf("| day to date | %.1f | %.1f | %.3f |\n| date to day | %.1f | %.1f | %.3f |\n", there.times[0], there.times[1], there.ratios[1], back.times[0], back.times[1], back.ratios[1]);
 }
@@ -324,6 +375,7 @@ void sheets(const char *sheet, const char *digits, const char *file) {
 
 int main(int argc, char **argv) {
     conversions();
+    weekdays();
     hebrew();
     fits();
     if (argc == 4) sheets(argv[1], argv[2], argv[3]);

@@ -1,4 +1,4 @@
-/* The library from C: dates both ways, positions, Easter, a code fitted and unfolded, a line of a sheet judged, and refusals. Prints what it asked, and
+/* The library from C: dates both ways, weekdays, positions, Easter, a code fitted and unfolded, a line of a sheet judged, and refusals. Prints what it asked, and
  * ends with a status that is not 0 where an answer is not as expected. examples/run builds and runs it. */
 #include <inttypes.h>
 #include <stdio.h>
@@ -8,6 +8,8 @@
 
 static int wrong = 0;
 
+static const char *const weekdays[] = {"refusal", "Monday", "Tuesday", "Wednesday", "Thursday", "Friday", "Saturday", "Sunday"};
+
 static void expect(int good, const char *what) {
     if (!good) {
         printf("not as expected: %s\n", what);
@@ -16,7 +18,7 @@ static void expect(int good, const char *what) {
 }
 
 static void dates(void) {
-    struct ijok_day d = ijok_date_to_day(IJOK_GREGORIAN, 2000, 2, 29);
+    struct ijok_day d = ijok_date_to_day(IJOK_GREGORIAN, 2000, 2, 29, IJOK_NO_WEEKDAY);
     struct ijok_date hebrew = ijok_day_to_date(IJOK_HEBREW, d.day);
     struct ijok_position february = ijok_position(IJOK_GREGORIAN, 2000, 2);
     struct ijok_date first = ijok_day_to_date(IJOK_JULIAN, 0);
@@ -24,11 +26,32 @@ static void dates(void) {
     expect(d.number == IJOK_DONE && d.day == 2451604, "29 February 2000");
     printf("29 February 2000 is day %" PRIu64 "\n", d.day);
 
-    expect(hebrew.number == IJOK_DONE && hebrew.year == 5760 && hebrew.month == 6 && hebrew.day == 23, "that day in the Hebrew calendar");
-    printf("in the Hebrew calendar year %" PRId64 ", position %" PRIu64 ", day %" PRIu64 "\n", hebrew.year, hebrew.month, hebrew.day);
+    expect(hebrew.number == IJOK_DONE && hebrew.year == 5760 && hebrew.month == 6 && hebrew.day == 23 && hebrew.weekday == IJOK_TUESDAY,
+           "that day in the Hebrew calendar");
+    printf("in the Hebrew calendar year %" PRId64 ", position %" PRIu64 ", day %" PRIu64 ", a %s\n", hebrew.year, hebrew.month, hebrew.day,
+           weekdays[hebrew.weekday]);
 
     expect(february.number == IJOK_DONE && february.kind == IJOK_MONTH && february.days == 29, "February 2000, a month of 29 days");
-    expect(first.number == IJOK_DONE && first.year == -4712 && first.month == 1 && first.day == 1, "day 0");
+    expect(first.number == IJOK_DONE && first.year == -4712 && first.month == 1 && first.day == 1 && first.weekday == IJOK_MONDAY, "day 0");
+}
+
+/* A date that is handed in with a weekday is refused where that is not its day's; what is wrong with the date itself comes first. */
+static void weekday(void) {
+    struct ijok_day d = ijok_date_to_day(IJOK_GREGORIAN, 2000, 1, 1, IJOK_SATURDAY);
+    struct ijok_day sunday = ijok_date_to_day(IJOK_GREGORIAN, 2000, 1, 1, IJOK_SUNDAY);
+    struct ijok_date last = ijok_day_to_date(IJOK_GREGORIAN, IJOK_LAST_DAY);
+
+    expect(d.number == IJOK_DONE && d.day == 2451545, "Saturday, 1 January 2000");
+    expect(sunday.number == IJOK_WRONG_WEEKDAY && sunday.day == 0, "Sunday, 1 January 2000");
+    printf("Saturday, 1 January 2000 is day %" PRIu64 ", and Sunday, 1 January 2000 is refused %" PRIu64 "\n", d.day, sunday.number);
+
+    expect(last.number == IJOK_DONE && last.year == 9999 && last.month == 12 && last.day == 31 && last.weekday == IJOK_FRIDAY, "the last day");
+    expect(ijok_date_to_day(IJOK_GREGORIAN, last.year, last.month, last.day, last.weekday).day == IJOK_LAST_DAY, "its date handed back");
+    printf("the last day, 31 December 9999, is a %s\n", weekdays[last.weekday]);
+
+    expect(ijok_date_to_day(IJOK_GREGORIAN, 2000, 1, 1, 9).number == IJOK_WRONG_WEEKDAY, "weekday 9");
+    expect(ijok_date_to_day(IJOK_GREGORIAN, 1900, 2, 29, 9).number == IJOK_NO_SUCH_DAY, "weekday 9 on a day that is not there");
+    expect(ijok_date_to_day(IJOK_REPUBLICAN, 14, 4, 11, 9).number == IJOK_CALENDAR_ENDED, "weekday 9 after the Republican end");
 }
 
 /* A position is a month, a strip of loose days, or none in a year that lacks it, with the answer 0. */
@@ -41,31 +64,34 @@ static void positions(void) {
     printf("position 13 of the Coptic year 3 is a strip of %" PRIu64 " days\n", loose.days);
 
     expect(none.number == IJOK_DONE && none.kind == IJOK_NONE && none.days == 0, "position 7 of a common Hebrew year");
-    expect(ijok_date_to_day(IJOK_HEBREW, 5759, 7, 1).number == IJOK_NO_SUCH_MONTH, "a date there");
+    expect(ijok_date_to_day(IJOK_HEBREW, 5759, 7, 1, IJOK_NO_WEEKDAY).number == IJOK_NO_SUCH_MONTH, "a date there");
     expect(beyond.number == IJOK_NO_SUCH_MONTH && beyond.kind == IJOK_NONE && beyond.days == 0, "position 14 of a Hebrew year");
 }
 
 /* A refusal has its number, and 0 in every other field. */
 static void refusals(void) {
-    struct ijok_day d = ijok_date_to_day(IJOK_GREGORIAN, 1900, 2, 29);
+    struct ijok_day d = ijok_date_to_day(IJOK_GREGORIAN, 1900, 2, 29, IJOK_NO_WEEKDAY);
     struct ijok_date early = ijok_day_to_date(IJOK_HEBREW, 0);
-    struct ijok_day last = ijok_date_to_day(IJOK_REPUBLICAN, 14, 4, 10);
-    struct ijok_day ended = ijok_date_to_day(IJOK_REPUBLICAN, 14, 4, 11);
+    struct ijok_day last = ijok_date_to_day(IJOK_REPUBLICAN, 14, 4, 10, IJOK_NO_WEEKDAY);
+    struct ijok_day ended = ijok_date_to_day(IJOK_REPUBLICAN, 14, 4, 11, IJOK_NO_WEEKDAY);
     struct ijok_date after = ijok_day_to_date(IJOK_REPUBLICAN, IJOK_REPUBLICAN_END + 1);
 
     expect(d.number == IJOK_NO_SUCH_DAY && d.day == 0, "29 February 1900");
     printf("29 February 1900 is refused %" PRIu64 "\n", d.number);
 
-    expect(early.number == IJOK_DAY_OUT_OF_RANGE && early.year == 0 && early.month == 0 && early.day == 0, "a day before the Hebrew calendar's first");
+    expect(early.number == IJOK_DAY_OUT_OF_RANGE && early.year == 0 && early.month == 0 && early.day == 0 && early.weekday == IJOK_NO_WEEKDAY,
+           "a day before the Hebrew calendar's first");
     expect(last.number == IJOK_DONE && last.day == IJOK_REPUBLICAN_END, "the last Republican date");
     expect(ended.number == IJOK_CALENDAR_ENDED && ended.day == 0, "the Republican date after it");
     printf("14/4/10 is the last Republican date, and 14/4/11 is refused %" PRIu64 "\n", ended.number);
-    expect(after.number == IJOK_CALENDAR_ENDED && after.year == 0 && after.month == 0 && after.day == 0, "the day after the Republican end");
-    expect(ijok_date_to_day(16, 2000, 1, 1).number == IJOK_UNKNOWN_CALENDAR, "calendar 16");
-    expect(ijok_date_to_day(IJOK_JULIAN, -4713, 1, 1).number == IJOK_YEAR_OUT_OF_RANGE, "the year before the first");
-    expect(ijok_date_to_day(IJOK_GREGORIAN, 10000, 1, 1).number == IJOK_DAY_OUT_OF_RANGE, "the day after the last");
+    expect(after.number == IJOK_CALENDAR_ENDED && after.year == 0 && after.month == 0 && after.day == 0 && after.weekday == IJOK_NO_WEEKDAY,
+           "the day after the Republican end");
+    expect(ijok_date_to_day(16, 2000, 1, 1, IJOK_NO_WEEKDAY).number == IJOK_UNKNOWN_CALENDAR, "calendar 16");
+    expect(ijok_date_to_day(IJOK_JULIAN, -4713, 1, 1, IJOK_NO_WEEKDAY).number == IJOK_YEAR_OUT_OF_RANGE, "the year before the first");
+    expect(ijok_date_to_day(IJOK_GREGORIAN, 10000, 1, 1, IJOK_NO_WEEKDAY).number == IJOK_DAY_OUT_OF_RANGE, "the day after the last");
     /* a negative number arrives as 2^63 or more */
-    expect(ijok_date_to_day(IJOK_GREGORIAN, 2000, (uint64_t)-1, 1).number == IJOK_NO_SUCH_MONTH, "month -1");
+    expect(ijok_date_to_day(IJOK_GREGORIAN, 2000, (uint64_t)-1, 1, IJOK_NO_WEEKDAY).number == IJOK_NO_SUCH_MONTH, "month -1");
+    expect(ijok_date_to_day(IJOK_GREGORIAN, 2000, 1, 1, (uint64_t)-1).number == IJOK_WRONG_WEEKDAY, "weekday -1");
 }
 
 static void easter(void) {
@@ -115,6 +141,7 @@ static void sheet(void) {
 
 int main(void) {
     dates();
+    weekday();
     positions();
     refusals();
     easter();

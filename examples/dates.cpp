@@ -47,11 +47,13 @@ void expect_refused(std::uint64_t number, F ask, const char *what) {
 }
 
 void ask() {
-    auto there = done(ijok_date_to_day(IJOK_JULIAN, 1582, 10, 4));
-    expect(there.day == 2299160, "4 October 1582 Julian");
+    auto there = done(ijok_date_to_day(IJOK_JULIAN, 1582, 10, 4, IJOK_THURSDAY));
+    expect(there.day == 2299160, "Thursday, 4 October 1582 Julian");
     auto next = done(ijok_day_to_date(IJOK_GREGORIAN, there.day + 1));
-    expect(next.year == 1582 && next.month == 10 && next.day == 15, "the next day, Gregorian");
-    std::printf("the day after 4 October 1582 Julian is %d-%d-%d Gregorian\n", int(next.year), int(next.month), int(next.day));
+    expect(next.year == 1582 && next.month == 10 && next.day == 15 && next.weekday == IJOK_FRIDAY, "the next day, Gregorian");
+    std::printf("the day after Thursday, 4 October 1582 Julian is %d-%d-%d Gregorian, weekday %d\n", int(next.year), int(next.month), int(next.day), int(next.weekday));
+    // the weekday of an answer can be handed back with its date
+    expect(done(ijok_date_to_day(IJOK_GREGORIAN, next.year, next.month, next.day, next.weekday)).day == there.day + 1, "that date again");
 
     struct ijok_position loose = done(ijok_position(IJOK_PERSIAN, 1, 9));
     expect(loose.kind == IJOK_STRIP && loose.days == 5, "position 9 of a Persian year");
@@ -70,7 +72,8 @@ void ask() {
 
     expect(verdict("0b1a380101256859") == IJOK_DONE && verdict("0b1a38010125685a") == IJOK_WRONG_DAY && verdict("xyz") == IJOK_MALFORMED_FRAME, "verdicts");
 
-    expect_refused(IJOK_NO_SUCH_DAY, [] { return done(ijok_date_to_day(IJOK_ISLAMIC_B, 1, 12, 30)); }, "a day beyond the month");
+    expect_refused(IJOK_NO_SUCH_DAY, [] { return done(ijok_date_to_day(IJOK_ISLAMIC_B, 1, 12, 30, IJOK_NO_WEEKDAY)); }, "a day beyond the month");
+    expect_refused(IJOK_WRONG_WEEKDAY, [] { return done(ijok_date_to_day(IJOK_GREGORIAN, 2000, 1, 1, IJOK_MONDAY)); }, "Monday, 1 January 2000");
     expect_refused(IJOK_UNKNOWN_CALENDAR, [] { return done(ijok_day_to_date(17, 0)); }, "calendar 17");
     expect_refused(IJOK_NO_SUCH_MONTH, [] { return done(ijok_position(IJOK_GREGORIAN, 2000, 13)); }, "position 13 of a Gregorian year");
     expect_refused(IJOK_YEAR_OUT_OF_RANGE, [] { return done(ijok_easter(IJOK_JULIAN, 0)); }, "Easter of year 0");

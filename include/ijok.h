@@ -6,7 +6,7 @@
  * Numbers. Every value of every number parameter is allowed and gets its answer: nothing is narrowed before it is tested. A negative number
  * that is passed for an unsigned parameter arrives as 2^63 or more, beyond every limit, and is refused as too large a number is, unless
  * another refusal comes first: a calendar with 1, a month or position with 3, a day of the month with 4, a day number with 5, a length of a
- * code or a count to unfold with 6, an a, b or r to unfold with 10. Years are signed, and year 0 exists.
+ * code or a count to unfold with 6, an a, b or r to unfold with 10, a weekday with 13. Years are signed, and year 0 exists.
  *
  * Memory. A slice is a pointer and then its number of elements. They must be there, aligned, and not be changed by another thread during the
  * call; a length that is not true is the one thing that cannot be refused. Nothing outside the slice is read or written. Where the length is 0
@@ -84,7 +84,20 @@ enum ijok_answer {
     IJOK_WRONG_DAY = 9,           /* the frame's date is good, and its day number differs */
     IJOK_LINE_OUT_OF_LIMITS = 10, /* the line to unfold has not b from 1 to 512, r from 0 to b - 1 and a from 0 to 400 b */
     IJOK_BUFFER_TOO_SHORT = 11,   /* the buffer has less room than the count */
+    IJOK_WRONG_WEEKDAY = 13,      /* the date is good, and the weekday handed in is neither 0 nor its day's */
     IJOK_CALENDAR_ENDED = 17      /* the date exists, or the day is in range, and it lies after the calendar's end */
+};
+
+/* The weekdays. Day number 0 is a Monday, and so is every seventh day after it, in every calendar. */
+enum ijok_weekday {
+    IJOK_NO_WEEKDAY = 0, /* handed in: not told, and so not compared; in an answer: refused */
+    IJOK_MONDAY = 1,
+    IJOK_TUESDAY = 2,
+    IJOK_WEDNESDAY = 3,
+    IJOK_THURSDAY = 4,
+    IJOK_FRIDAY = 5,
+    IJOK_SATURDAY = 6,
+    IJOK_SUNDAY = 7
 };
 
 /* The kinds of a position. */
@@ -104,6 +117,7 @@ struct ijok_date {
     int64_t year;
     uint64_t month;
     uint64_t day;
+    uint64_t weekday; /* 1 to 7, one of enum ijok_weekday; 0 only in a refusal */
 };
 
 struct ijok_position {
@@ -125,10 +139,11 @@ struct ijok_line {
     uint64_t r;
 };
 
-/* The day number of a date. Tries 1, 2, 3, 4, 17, 5. */
-struct ijok_day ijok_date_to_day(uint64_t calendar, int64_t year, uint64_t month, uint64_t day);
+/* The day number of a date. A weekday of 0 is not compared; any other that is not the day's, every one above 7 too, is refused 13, after all that is wrong
+ * with the date itself. Tries 1, 2, 3, 4, 17, 5, 13. */
+struct ijok_day ijok_date_to_day(uint64_t calendar, int64_t year, uint64_t month, uint64_t day, uint64_t weekday);
 
-/* The date of a day number. Tries 1, 5, 17. */
+/* The date of a day number, with its weekday, so that all four values can be handed back to ijok_date_to_day. Tries 1, 5, 17. */
 struct ijok_date ijok_day_to_date(uint64_t calendar, uint64_t day);
 
 /* The two functions below hide the names of their structs from C++, where the types are written `struct ijok_position` and `struct ijok_easter` as in C. */
@@ -158,7 +173,7 @@ struct ijok_line ijok_fit(const uint64_t *code, size_t count);
 uint64_t ijok_unfold(uint64_t a, uint64_t b, uint64_t r, size_t count, uint64_t *buffer, size_t room);
 
 /* The answer number that a sheet gives a line of `length` bytes, its newline not counted. A frame is 16 digits: calendar 2, year plus 4,712 as 4, month
- * 2, day of month 2, day number 6, high digit first. 8 for any other line; for a frame tries 1, 2, 3, 4, 17, 5, 9. */
+ * 2, day of month 2, day number 6, high digit first; it has no weekday. 8 for any other line; for a frame tries 1, 2, 3, 4, 17, 5, 9. */
 uint64_t ijok_verdict(const uint8_t *line, size_t length);
 
 #ifdef __cplusplus
