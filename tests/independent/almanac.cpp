@@ -133,11 +133,9 @@ bool hebrew_leap(int64_t y) {
     return place == 3 || place == 6 || place == 8 || place == 11 || place == 14 || place == 17 || place == 19;
 }
 
-enum Weekday { MONDAY, TUESDAY, WEDNESDAY, THURSDAY, FRIDAY, SATURDAY, SUNDAY };
-
 int64_t hebrew_new_year(const Moon &moon, bool leap, bool leap_before) {
     int64_t day = moon.day;
-    int weekday = int(day % 7);
+    uint64_t weekday = weekday_of(day);
     if (moon.at_or_after(18, 0)) {
         day += 1;
     } else if (!leap && weekday == TUESDAY && moon.at_or_after(9, 204)) {
@@ -145,7 +143,7 @@ int64_t hebrew_new_year(const Moon &moon, bool leap, bool leap_before) {
     } else if (!leap && leap_before && weekday == MONDAY && moon.at_or_after(15, 589)) {
         day += 1;
     }
-    weekday = int(day % 7);
+    weekday = weekday_of(day);
     if (weekday == SUNDAY || weekday == WEDNESDAY || weekday == FRIDAY) day += 1;
     return day;
 }
@@ -223,6 +221,21 @@ const Almanac &almanac(uint64_t calendar) {
     return a;
 }
 
+uint64_t weekday_of(int64_t day) {
+    // day 0 is a Monday, and each day has the weekday after that of the day before
+    static const std::vector<uint8_t> weekdays = [] {
+        constexpr size_t DAYS = 10000000;  // more than the calendars have to the year 20,001
+        std::vector<uint8_t> all;
+        uint8_t weekday = MONDAY;
+        while (all.size() < DAYS) {
+            all.push_back(weekday);
+            weekday = weekday == SUNDAY ? uint8_t(MONDAY) : uint8_t(weekday + 1);
+        }
+        return all;
+    }();
+    return weekdays.at(size_t(day));
+}
+
 bool listed(uint64_t calendar) {
     for (uint64_t c : LISTED)
         if (c == calendar) return true;
@@ -252,4 +265,9 @@ ijok_day naive_date_to_day(uint64_t calendar, int64_t year, uint64_t month, uint
     int64_t n = a.counted(date);
     if (n > LAST_DAY) return {DAY_OUT_OF_RANGE, 0};
     return {DONE, uint64_t(n)};
+}
+
+ijok_day with_weekday(const ijok_day &answer, uint64_t weekday) {
+    if (answer.number || weekday == NOT_TOLD || weekday == weekday_of(int64_t(answer.day))) return answer;
+    return {WRONG_WEEKDAY, 0};
 }

@@ -1,4 +1,4 @@
-// The sixteen calendars by the naive road: the length of each position of each year, and counting day by day.
+// The sixteen calendars by the naive road: the length of each position of each year, counting day by day, and weekdays stepped along with the days.
 #pragma once
 #include <compare>
 #include <cstdint>
@@ -21,8 +21,12 @@ enum Answer : uint64_t {
     DAY_OUT_OF_RANGE = 5,
     MALFORMED_FRAME = 8,
     WRONG_DAY = 9,
+    WRONG_WEEKDAY = 13,
     AFTER_THE_END = 17
 };
+
+// The weekdays; a date may be handed in without one.
+enum Weekday : uint64_t { NOT_TOLD = 0, MONDAY = 1, TUESDAY = 2, WEDNESDAY = 3, THURSDAY = 4, FRIDAY = 5, SATURDAY = 6, SUNDAY = 7 };
 
 // The kinds of a position: none, where the answer is a refusal or the year lacks the position, a month, a strip of loose days.
 enum Kind : uint64_t { NONE = 0, MONTH = 1, STRIP = 2 };
@@ -55,10 +59,17 @@ const Almanac &almanac(uint64_t calendar);
 
 bool listed(uint64_t calendar);
 
+// The weekday of a day, also after the last day, as far as the years go.
+uint64_t weekday_of(int64_t day);
+
+// With no weekday told.
 ijok_day naive_date_to_day(uint64_t calendar, int64_t year, uint64_t month, uint64_t day);
+// That answer where a weekday is handed in too, which is looked at last: what is refused stays as it is.
+ijok_day with_weekday(const ijok_day &answer, uint64_t weekday);
 struct ijok_position naive_position(uint64_t calendar, int64_t year, uint64_t position);
 
 void compare_calendars();
+void compare_weekdays();
 void compare_easter();
 void compare_codes();
 void compare_unfolding();

@@ -61,7 +61,9 @@ void year_of(uint64_t c, int year) {
     Feast other = c == 10 ? meeus(year) : butcher(year);
     report.same(got, on(rule), "Easter by the rule, calendar %" PRIu64 ", year %d", c, year);
     report.same(got, on(other), "Easter by a published algorithm, calendar %" PRIu64 ", year %d", c, year);
-    report.same(naive_date_to_day(c, year, got.month, got.day).day % 7, 6, "Easter's weekday, calendar %" PRIu64 ", year %d", c, year);
+    const ijok_day day = naive_date_to_day(c, year, got.month, got.day);
+    report.same(weekday_of(int64_t(day.day)), SUNDAY, "Easter's weekday, calendar %" PRIu64 ", year %d", c, year);
+    report.same(ijok_date_to_day(c, year, got.month, got.day, SUNDAY), day, "Easter handed in as a Sunday, calendar %" PRIu64 ", year %d", c, year);
 }
 
 void refused(uint64_t c, int64_t year, uint64_t number) { report.same(ijok_easter(c, year), number, "Easter, calendar %" PRIu64 ", year %" PRId64, c, year); }
@@ -71,7 +73,7 @@ void refused(uint64_t c, int64_t year, uint64_t number) { report.same(ijok_easte
 void compare_easter() {
     for (int y = 1; y <= 9999; ++y) year_of(10, y);
     for (int y = 1583; y <= 9999; ++y) year_of(11, y);
-    report.line("every Easter of both calendars: by the rule, by Meeus or Butcher, and its weekday");
+    report.line("every Easter of both calendars: by the rule, by Meeus or Butcher, its weekday, and its day where it is handed in as a Sunday");
 
     const std::vector<int64_t> far = {std::numeric_limits<int64_t>::min(), std::numeric_limits<int64_t>::min() + 1, -(int64_t(1) << 32), -(int64_t(1) << 32) + 2000, -4712, -4711, -1,
                                       (int64_t(1) << 32) + 2000, int64_t(1) << 31, std::numeric_limits<int64_t>::max() - 1, std::numeric_limits<int64_t>::max()};

@@ -15,6 +15,7 @@ int main(int argc, char **argv) {
     }
     if (half == "calendars") {
         compare_calendars();
+        compare_weekdays();
         compare_easter();
     } else {
         compare_codes();

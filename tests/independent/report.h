@@ -9,11 +9,11 @@
 
 // The fields of an answer, its number first; a refusal is its number alone, so that every other field is compared with 0.
 struct Fields {
-    uint64_t values[4] = {};
+    uint64_t values[5] = {};
 
     Fields(uint64_t number) : values{number} {}
     Fields(ijok_day x) : values{x.number, x.day} {}
-    Fields(ijok_date x) : values{x.number, uint64_t(x.year), x.month, x.day} {}
+    Fields(ijok_date x) : values{x.number, uint64_t(x.year), x.month, x.day, x.weekday} {}
     Fields(struct ijok_position x) : values{x.number, x.kind, x.days} {}
     Fields(struct ijok_easter x) : values{x.number, x.month, x.day} {}
     Fields(ijok_line x) : values{x.number, x.a, x.b, x.r} {}
