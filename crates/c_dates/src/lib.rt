@@ -41,7 +41,13 @@ const STRIP: u64 = 2;
 
 // The day of a date: by its one number, since an enum would be handed over through memory.
 #[no_mangle]
-pub extern "C" fn ijok_date_to_day(calendar: u64, year: i64, month: u64, day: u64, weekday: u64) -> DayFields
+pub extern "C" fn ijok_date_to_day(
+    calendar: u64,
+    year: i64,
+    month: u64,
+    day: u64,
+    weekday: u64,
+) -> DayFields
     ensures { λ r. ⌜ dayFields r ≡ dayAnswerWith calendar year month day weekday ⌝ }
 {
     let r = weekdays::packed_day(calendar, year, month, day, weekday);

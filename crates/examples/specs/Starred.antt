@@ -1,5 +1,6 @@
 -- The worked examples that docs/RULES.md marks with a star ("Worked examples"), as one table, over the definitions that the promises cite:
--- `dayAnswer`, `dateAnswer` and `positionAnswer` of crate calendar_rules for date to day, day to date and a position, `fitOf` of crate lines for fitting.
+-- `dayAnswerWith` and, without a weekday, `dayAnswer` for date to day, `dateAnswer` for day to date, `positionAnswer` for a position, of crate calendar_rules;
+-- `fitOf` of crate lines for fitting.
 use mathlib.Core.Path.{_≡_}
 use mathlib.Core.List.{List, [], _∷_}
 use Prim.Native.Nat.{ℕ}
@@ -7,12 +8,13 @@ use lib.IntN.{ℤ, pos, negsuc}
 use Rattle.lines.specs.Fit.{Answer, line, refused, fitOf}
 use Rattle.counting.specs.Answers.{DayAnswer, DateAnswer, noDayAnswer}
 use Rattle.counting.specs.Positions.{PositionAnswer}
-use Rattle.calendar_rules.specs.Answers.{dayAnswer, dateAnswer, positionAnswer}
+use Rattle.calendar_rules.specs.Answers.{dayAnswer, dayAnswerWith, dateAnswer, positionAnswer}
 use Rattle.calendar_rules.specs.Examples.{is}
 
--- a question and its answer: the day of a date (calendar, year, month, day), the date of a day, a position of a year, or the line of a code
+-- a question and its answer: the day of a date (calendar, year, month, day; and with a weekday), the date of a day, a position of a year, or the line of a code
 pub data Example : Type 0 where
   date : ℕ → ℤ → ℕ → ℕ → DayAnswer → Example
+  dateWith : ℕ → ℤ → ℕ → ℕ → ℕ → DayAnswer → Example
   day : ℕ → ℕ → DateAnswer → Example
   position : ℕ → ℤ → ℕ → PositionAnswer → Example
   code : List ℕ → Answer → Example
@@ -48,6 +50,7 @@ starred =
 -- the example is answered as it says
 abbrev pub Answered : Example → Type 0
 Answered (date c y m d a) = dayAnswer c y m d ≡ a
+Answered (dateWith c y m d w a) = dayAnswerWith c y m d w ≡ a
 Answered (day c n a) = dateAnswer c n ≡ a
 Answered (position c y m a) = positionAnswer c y m ≡ a
 Answered (code ls a) = fitOf ls ≡ a

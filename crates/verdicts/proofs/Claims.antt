@@ -1,7 +1,7 @@
 -- What is proved of the verdict on a line: the page to read first. It rests on specs/Digits.antt of crate hex (digits), specs/Frame.antt of crate frames
 -- (the fields of a frame), specs/Answers.antt of crate calendar_rules (what date to day answers) and specs/Verdict.antt.
 use mathlib.Core.Path.{_≡_, refl, sym, _∙_}
-use mathlib.Core.Logic.{_↔_}
+use mathlib.Core.Logic.{inl, _↔_}
 use mathlib.Core.List.{List}
 use mathlib.Core.Bool.{Bool, true, false, cond, _||_}
 use Prim.Native.Nat.{ℕ}
@@ -98,7 +98,13 @@ module _ (line : List ℕ) where
       × Earlier (pos 14) 4 10 (yearOf f) (f .month) (f .day))
   ended =
       let r = refused 17 (omega arith) (omega arith) (omega arith) in
-      let d = R.ended-date (f .calendar) (yearOf f) (f .month) (f .day) in (
+      let d = R.ended-date (f .calendar) (yearOf f) (f .month) (f .day) 0 in (
         (λ e. let x = r .0 e in let y = d .0 (x .1) in (x .0, y .0, y .1, y .2)),
         λ x. r .1 (x .0, d .1 (x .1, x .2, x .3)),
       )
+
+  -- and never 13: a frame has no weekday
+  pub no-weekday : ¬ (verdictOf line ≡ 13)
+  no-weekday e =
+      let r = refused 13 (omega arith) (omega arith) (omega arith) .0 e in
+      R.weekday-refused (f .calendar) (yearOf f) (f .month) (f .day) 0 .0 (r .1) .1 (inl refl)
