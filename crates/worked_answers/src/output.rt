@@ -13,16 +13,7 @@ pub(crate) fn put_year(good: &mut bool, year: i64) {
     if year < 0 {
         put(good, b"-");
     }
-    put_number(good, magnitude(year));
-}
-
-// The distance from 0. Of the least i64 it is no i64.
-fn magnitude(year: i64) -> u64 {
-    if year < 0 {
-        let from_minus_one = 0 - (year + 1);
-        return from_minus_one as u64 + 1;
-    }
-    year as u64
+    put_number(good, stdio::magnitude(year));
 }
 
 pub(crate) fn put_refusal(good: &mut bool, why: Refusal) {
