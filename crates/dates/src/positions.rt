@@ -1,24 +1,13 @@
-// The answer to a request line.
-use crate::reading::Scan;
-use crate::reading::after_space;
-use crate::reading::year;
+// The positions of a year.
+use crate::output::put_refusal;
 use calendars::Position;
 use printing::Sink;
 use printing::put;
 use printing::put_all;
 use printing::put_number;
-use refusals::Refusal;
 
 // No calendar has more positions.
 const MOST_POSITIONS: u64 = 20;
-
-fn put_refusal(sink: Sink, why: Refusal, out: &mut [u8]) -> Sink {
-    put_number(
-        put_all(sink, b"refused ", out),
-        refusals::wide_number(why),
-        out,
-    )
-}
 
 // What a position is, without its number.
 fn put_kind(sink: Sink, answer: Position, out: &mut [u8]) -> Sink {
@@ -51,26 +40,9 @@ fn put_positions(start: Sink, calendar: u64, year: i64, out: &mut [u8]) -> Sink 
 }
 
 // Where the calendar or the year is refused, so is its first position.
-fn answer_request(sink: Sink, calendar: u64, year: i64, out: &mut [u8]) -> Sink {
+pub(crate) fn answer_year(sink: Sink, calendar: u64, year: i64, out: &mut [u8]) -> Sink {
     match calendars::position_of(calendar, year, 1) {
         Position::Refused(why) => put_refusal(sink, why, out),
         _ => put_positions(sink, calendar, year, out),
     }
-}
-
-fn answer_line(scan: Scan, sink: Sink, out: &mut [u8]) -> Sink {
-    match after_space(scan) {
-        Scan::End(calendar, minus, distance) => answer_request(
-            sink,
-            calendar,
-            year(minus, distance),
-            out,
-        ),
-        _ => put_all(sink, b"not a request", out),
-    }
-}
-
-// The answer to a line of which no byte is left, with a newline.
-pub(crate) fn answer(scan: Scan, sink: Sink, out: &mut [u8]) -> Sink {
-    put(answer_line(scan, sink, out), b'\n', out)
 }

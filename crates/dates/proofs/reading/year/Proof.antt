@@ -2,8 +2,8 @@
 use native.Mathlib.Omega.{arith}
 use Rattle.basics.proofs.Signed.{negated}
 use borrow.Author.Needs.{needs}
-use Rattle.positions.proofs.reading.year.Statement.{statement}
-use Rattle.positions.proofs.reading.year.Tie as tie
+use Rattle.dates.proofs.reading.year.Statement.{statement}
+use Rattle.dates.proofs.reading.year.Tie as tie
 
 returns : tie.Need-returns
 returns c = search needs

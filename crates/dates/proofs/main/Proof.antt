@@ -1,13 +1,13 @@
 -- `main` is safe and ends. The measure is the number of turns left; nothing has to hold from turn to turn, which `Unit {0}` says.
 use borrow.Author.Needs.{needs}
-use Rattle.positions.proofs.main.Statement.{statement}
-use Rattle.positions.proofs.main.Tie as tie
+use Rattle.dates.proofs.main.Statement.{statement}
+use Rattle.dates.proofs.main.Tie as tie
 
 abbrev Inv-loop : tie.InvT-loop
-Inv-loop input₀ out₀ state₀ turns₀ input out state turns = Unit {0}
+Inv-loop input₀ numbers₀ out₀ state₀ turns₀ input numbers out state turns = Unit {0}
 
 abbrev μ-loop : tie.MeasureT-loop
-μ-loop input₀ out₀ state₀ turns₀ input out state turns = turns
+μ-loop input₀ numbers₀ out₀ state₀ turns₀ input numbers out state turns = turns
 
 slice-aggregate-input : tie.Need-slice-aggregate-input Inv-loop μ-loop
 slice-aggregate-input c = search needs

@@ -1,24 +1,23 @@
-// A request line read byte by byte: a calendar, and a year that may have a minus sign.
+// A request line read byte by byte: numbers, which go to a lent buffer, and a minus sign that the second may have.
 ghost use Prim.Native.Nat.{_≤_};
+
+// No request has more numbers.
+pub(crate) const MOST_NUMBERS: usize = 5;
 
 // A tenth of the largest number. From here on another digit may be too much.
 const TENTH: u64 = 1844674407370955161;
 
 const LAST_YEAR: u64 = 0x7fff_ffff_ffff_ffff;
 
-// How far a line is read. A year is its distance from 0 so far, and before that whether it has a minus sign.
+// How far a line is read: how many numbers are kept, and whether the second, a year, has a minus sign.
 pub(crate) enum Scan {
     Start,
-    // In the calendar: its number so far.
-    Calendar(u64),
-    // After a space behind the calendar.
-    Space(u64),
-    // After the year's minus sign: the calendar.
-    Minus(u64),
-    // In the year: the calendar and the year.
-    Year(u64, bool, u64),
-    // After a space behind the year: the same.
-    End(u64, bool, u64),
+    // In a number: the same of those before it, and the number so far.
+    Number(usize, bool, u64),
+    // After a space behind a number.
+    Space(usize, bool),
+    // After the year's minus sign.
+    Minus,
     // The line is no request.
     Wrong,
 }
@@ -34,20 +33,26 @@ pub(crate) fn is_start(scan: Scan) -> bool {
     }
 }
 
+fn after_number(count: usize, minus: bool, value: u64, numbers: &mut [u64; MOST_NUMBERS]) -> Scan {
+    if count < MOST_NUMBERS {
+        numbers[count] = value;
+        return Scan::Space(count + 1, minus);
+    }
+    Scan::Wrong
+}
+
 // After a space, or at the end of the line.
-pub(crate) fn after_space(scan: Scan) -> Scan {
+pub(crate) fn after_space(scan: Scan, numbers: &mut [u64; MOST_NUMBERS]) -> Scan {
     match scan {
-        Scan::Calendar(calendar) => Scan::Space(calendar),
-        Scan::Year(calendar, minus, distance) => Scan::End(calendar, minus, distance),
-        Scan::Space(_) => scan,
-        Scan::End(_, _, _) => scan,
+        Scan::Number(count, minus, value) => after_number(count, minus, value, numbers),
+        Scan::Space(_, _) => scan,
         _ => Scan::Wrong,
     }
 }
 
 fn after_minus(scan: Scan) -> Scan {
     match scan {
-        Scan::Space(calendar) => Scan::Minus(calendar),
+        Scan::Space(count, _) => if count == 1 { Scan::Minus } else { Scan::Wrong },
         _ => Scan::Wrong,
     }
 }
@@ -67,23 +72,18 @@ fn after_digit(scan: Scan, digit: u8) -> Scan
     requires { ⌜ digit ≤ 9 ⌝ }
 {
     match scan {
-        Scan::Start => Scan::Calendar(digit as u64),
-        Scan::Calendar(calendar) => Scan::Calendar(with_digit(calendar, digit)),
-        Scan::Space(calendar) => Scan::Year(calendar, false, digit as u64),
-        Scan::Minus(calendar) => Scan::Year(calendar, true, digit as u64),
-        Scan::Year(calendar, minus, distance) => Scan::Year(
-            calendar,
-            minus,
-            with_digit(distance, digit),
-        ),
-        _ => Scan::Wrong,
+        Scan::Start => Scan::Number(0, false, digit as u64),
+        Scan::Number(count, minus, value) => Scan::Number(count, minus, with_digit(value, digit)),
+        Scan::Space(count, minus) => Scan::Number(count, minus, digit as u64),
+        Scan::Minus => Scan::Number(1, true, digit as u64),
+        Scan::Wrong => Scan::Wrong,
     }
 }
 
 // One more byte, which is no newline.
-pub(crate) fn step(scan: Scan, byte: u8) -> Scan {
+pub(crate) fn step(scan: Scan, byte: u8, numbers: &mut [u64; MOST_NUMBERS]) -> Scan {
     match byte {
-        b' ' => after_space(scan),
+        b' ' => after_space(scan, numbers),
         b'-' => after_minus(scan),
         b'0'..=b'9' => after_digit(scan, byte - b'0'),
         _ => Scan::Wrong,

@@ -3,14 +3,14 @@ use Prim.Native.Nat.{_-_}
 use mathlib.Core.Path.{_≡_}
 use lib.ListN.{length}
 use borrow.Author.Needs.{needs}
-use Rattle.positions.proofs.take_piece.Statement.{statement}
-use Rattle.positions.proofs.take_piece.Tie as tie
+use Rattle.dates.proofs.take_piece.Statement.{statement}
+use Rattle.dates.proofs.take_piece.Tie as tie
 
 abbrev Inv-loop : tie.InvT-loop
-Inv-loop piece out₀ state₀ k₀ out state k = length out ≡ length out₀
+Inv-loop piece numbers₀ out₀ state₀ k₀ numbers out state k = length out ≡ length out₀
 
 abbrev μ-loop : tie.MeasureT-loop
-μ-loop piece out₀ state₀ k₀ out state k = length piece - k
+μ-loop piece numbers₀ out₀ state₀ k₀ numbers out state k = length piece - k
 
 loop-holds : tie.Need-loop-holds Inv-loop μ-loop
 loop-holds c = search needs

@@ -1,16 +1,22 @@
 #!/usr/bin/env python3
-"""What the program positions must answer, from docs/RULES.md alone: each year's lengths as a list. It shares nothing with the program.
+"""What the program dates must answer, from docs/RULES.md alone: each year's lengths as a list, years counted on from the calendar's first day, weekdays
+from Python's own calendar. It shares nothing with the program.
 
-    python3 tests/positions_requests.py > crates/positions/stdin
-    python3 tests/positions_expected.py < crates/positions/stdin > crates/positions/stdout
+    python3 tests/dates_requests.py > crates/dates/stdin
+    python3 tests/dates_expected.py < crates/dates/stdin > crates/dates/stdout
 
-`rt check positions` runs the program on that stdin and compares.
+`rt check dates` runs the program on that stdin and compares.
 """
+import bisect
+import datetime
 import functools
 import re
 import sys
 
 LAST_YEAR = 20000
+LAST_DAY = 5373484
+# the Republican calendar's last day
+LAST_REPUBLICAN = 2380687
 
 
 def gregorian_leap(year):
@@ -78,6 +84,12 @@ CALENDARS = {
     15: (SAKA, LEAP_SAKA, saka_leap),
 }
 
+# the day of 1/1 of the first year
+FIRST_DAYS = {
+    1: 1448638, 2: 1922868, 3: 1952068, 4: 1952063, 5: 1724221, 6: 1825030, 7: 2375840, 8: 1607709, 9: 1607739, 10: 0, 11: 38, 12: 1948439, 13: 1948440,
+    14: 2394647, 15: 1749995, 18: 347998,
+}
+
 # calendar and position of the loose days
 STRIPS = {(1, 13), (2, 13), (3, 13), (4, 9), (5, 13), (6, 13), (7, 13), (14, 19)}
 
@@ -124,7 +136,11 @@ def hebrew_first_day(year):
     return day
 
 
-# ---- answers
+# ---- years, dates and weekdays
+
+
+def first_year(calendar):
+    return -4712 if calendar in (10, 11) else 1
 
 
 def lengths(calendar, year):
@@ -132,6 +148,101 @@ def lengths(calendar, year):
         return HEBREW[hebrew_first_day(year + 1) - hebrew_first_day(year)]
     common, leap, is_leap = CALENDARS[calendar]
     return leap if is_leap(year) else common
+
+
+@functools.lru_cache(None)
+def year_starts(calendar):
+    """The first day of each year, from the first year to the one after the last."""
+    found = [FIRST_DAYS[calendar]]
+    for year in range(first_year(calendar), LAST_YEAR + 1):
+        found.append(found[-1] + sum(lengths(calendar, year)))
+    return found
+
+
+# the day before 1 January of year 1, Gregorian, from which Python counts
+DAY_BEFORE_YEAR_1 = 1721425
+# whole weeks that lead from any earlier day to one that Python has
+WEEKS = 7 * 250000
+
+
+def weekday(day):
+    if day <= DAY_BEFORE_YEAR_1:
+        day += WEEKS
+    return datetime.date.fromordinal(day - DAY_BEFORE_YEAR_1).isoweekday()
+
+
+def check():
+    """What is counted here against Python's Gregorian calendar, and a weekday that all know."""
+    assert weekday(day_of(11, 2000, 1, 1)) == 6
+    for ordinal in list(range(1, 3652060, 1009)) + [3652059]:
+        other = datetime.date.fromordinal(ordinal)
+        day = ordinal + DAY_BEFORE_YEAR_1
+        assert date_of(11, day) == (other.year, other.month, other.day)
+        assert day_of(11, other.year, other.month, other.day) == day
+    # no Hebrew year begins on a Sunday, a Wednesday or a Friday
+    assert {weekday(day) for day in year_starts(18) if day <= LAST_DAY} == {1, 2, 4, 6}
+
+
+# ---- answers
+
+
+class Refused(Exception):
+    pass
+
+
+def check_year(calendar, year):
+    if calendar not in FIRST_DAYS:
+        raise Refused(1)
+    if year < first_year(calendar) or LAST_YEAR < year:
+        raise Refused(2)
+
+
+def day_of(calendar, year, month, day):
+    check_year(calendar, year)
+    found = lengths(calendar, year)
+    if not 1 <= month <= len(found) or found[month - 1] == 0:
+        raise Refused(3)
+    if not 1 <= day <= found[month - 1]:
+        raise Refused(4)
+    number = year_starts(calendar)[year - first_year(calendar)] + sum(found[:month - 1]) + day - 1
+    if calendar == 7 and LAST_REPUBLICAN < number:
+        raise Refused(17)
+    if LAST_DAY < number:
+        raise Refused(5)
+    return number
+
+
+def date_of(calendar, day):
+    if day < FIRST_DAYS[calendar] or LAST_DAY < day:
+        raise Refused(5)
+    if calendar == 7 and LAST_REPUBLICAN < day:
+        raise Refused(17)
+    starts = year_starts(calendar)
+    years = bisect.bisect(starts, day) - 1
+    year, rest, month = first_year(calendar) + years, day - starts[years], 1
+    for length in lengths(calendar, year):
+        if rest < length:
+            break
+        rest, month = rest - length, month + 1
+    return year, month, rest + 1
+
+
+def with_weekday(calendar, year, month, day, handed_in=0):
+    number = day_of(calendar, year, month, day)
+    if handed_in not in (0, weekday(number)):
+        raise Refused(13)
+    return [str(number)]
+
+
+def in_calendar(calendar, day):
+    try:
+        return '{} {} {} {} {}'.format(calendar, *date_of(calendar, day), weekday(day))
+    except Refused as why:
+        return f'{calendar} refused {why}'
+
+
+def in_all(day):
+    return [in_calendar(calendar, day) for calendar in sorted(FIRST_DAYS)]
 
 
 def position(calendar, number, days):
@@ -142,21 +253,28 @@ def position(calendar, number, days):
     return f'{number} month {days}'
 
 
-def answer(line):
-    request = re.fullmatch(rb'([0-9]+) +(-?[0-9]+) *', line)
-    if not request:
-        return ['not a request']
-    calendar, year = int(request[1]), int(request[2])
-    if calendar not in CALENDARS and calendar != 18:
-        return ['refused 1']
-    if year < (-4712 if calendar in (10, 11) else 1) or LAST_YEAR < year:
-        return ['refused 2']
+def positions(calendar, year):
+    check_year(calendar, year)
     found = lengths(calendar, year)
     return [position(calendar, i + 1, days) for i, days in enumerate(found)] + [f'{sum(found)} days']
 
 
+ANSWERS = {1: in_all, 2: positions, 4: with_weekday, 5: with_weekday}
+
+
+def answer(line):
+    numbers = line.split()
+    if not re.fullmatch(rb'[0-9]+( +-?[0-9]+( +[0-9]+)*)? *', line) or len(numbers) not in ANSWERS:
+        return ['not a request']
+    try:
+        return ANSWERS[len(numbers)](*map(int, numbers))
+    except Refused as why:
+        return [f'refused {why}']
+
+
 def main():
     sys.set_int_max_str_digits(0)
+    check()
     lines = sys.stdin.buffer.read().split(b'\n')
     if lines[-1] == b'':
         lines.pop()
