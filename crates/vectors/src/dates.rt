@@ -7,14 +7,27 @@ use calendars::Day;
 
 pub(crate) fn agrees_with(row: Line) -> bool {
     let n = row.numbers;
-    agrees(n[0], rows::date(row), n[4])
+    agrees(n[0], rows::date(row, 0), n[4])
 }
 
 pub(crate) fn agrees(calendar: u64, date: Date, day: u64) -> bool {
     if is_number(calendars::date_to_day(calendar, date), day) {
-        return is_date(calendars::day_to_date(calendar, day), date);
+        return comes_back(calendar, date, day);
     }
     false
+}
+
+// Whether the day's date is that one, and with its weekday gives the day again.
+fn comes_back(calendar: u64, date: Date, day: u64) -> bool {
+    match calendars::day_to_date(calendar, day) {
+        Dated::On(found) => {
+            if is_same(found, date) {
+                return is_number(calendars::date_to_day(calendar, found), day);
+            }
+            false
+        }
+        Dated::Refused(_) => false,
+    }
 }
 
 fn is_number(answer: Day, day: u64) -> bool {
@@ -24,19 +37,19 @@ fn is_number(answer: Day, day: u64) -> bool {
     }
 }
 
-fn is_date(answer: Dated, date: Date) -> bool {
-    match answer {
-        Dated::On(found) => same(found, date),
-        Dated::Refused(_) => false,
-    }
-}
-
-fn same(a: Date, b: Date) -> bool {
-    if a.year != b.year {
+// Whether the date that was found is the other one, with its weekday where it has one.
+fn is_same(found: Date, date: Date) -> bool {
+    if found.year != date.year {
         return false;
     }
-    if a.month != b.month {
+    if found.month != date.month {
         return false;
     }
-    a.day == b.day
+    if found.day != date.day {
+        return false;
+    }
+    if date.weekday == 0 {
+        return true;
+    }
+    found.weekday == date.weekday
 }

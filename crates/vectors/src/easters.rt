@@ -1,13 +1,15 @@
-// Compares an Easter Sunday: the rule's date, that date's day number in both directions, and its weekday.
+// Compares an Easter Sunday: the rule's date, and that date with its weekday and its day number in both directions.
 use crate::dates;
 use crate::rows;
 use crate::rows::Line;
 use calendars::Date;
 use easter::EasterDate;
 
+const SUNDAY: u64 = 7;
+
 pub(crate) fn agrees_with(row: Line) -> bool {
     let n = row.numbers;
-    agrees(n[0], rows::date(row), n[4])
+    agrees(n[0], rows::date(row, SUNDAY), n[4])
 }
 
 fn agrees(calendar: u64, date: Date, day: u64) -> bool {

@@ -16,7 +16,8 @@ pub(crate) fn compare_all(good: &mut bool) {
     let middle = compare_middle(good, first);
     let dates = compare_later(good, middle);
     let hebrew = compare_file(good, b"hebrew_year_lengths.tsv", Table::Lengths, dates);
-    let all = compare_file(good, b"easter_ncal.tsv", Table::Easters, hebrew);
+    let easters = compare_file(good, b"easter_ncal.tsv", Table::Easters, hebrew);
+    let all = compare_file(good, b"weekdays.tsv", Table::Weekdays, easters);
     put_number(good, all.files);
     put(good, b" files");
     put_counts(good, all);

@@ -41,6 +41,7 @@ fn first_day(calendar: u64, year: i64) -> Day {
             year,
             month: 1,
             day: 1,
+            weekday: 0,
         },
     )
 }

@@ -7,6 +7,7 @@ mod output;
 mod rows;
 mod tables;
 mod tally;
+mod weekdays;
 
 fn main() {
     let mut good = true;

@@ -153,12 +153,13 @@ pub(crate) fn unsigned_year(line: Line) -> u64 {
     }
 }
 
-pub(crate) fn date(line: Line) -> Date {
+pub(crate) fn date(line: Line, weekday: u64) -> Date {
     let n = line.numbers;
     Date {
         year: year(line),
         month: n[2],
         day: n[3],
+        weekday,
     }
 }
 

@@ -8,6 +8,7 @@ use crate::rows::Place;
 use crate::tally;
 use crate::tally::Finding;
 use crate::tally::Tally;
+use crate::weekdays;
 
 // What the numbers of a table's rows are.
 pub enum Table {
@@ -17,6 +18,8 @@ pub enum Table {
     Easters,
     // Calendar, year, length of the year.
     Lengths,
+    // Calendar, year, month, day, weekday.
+    Weekdays,
 }
 
 // How many numbers a row has.
@@ -36,6 +39,7 @@ fn compare_row(table: Table, line: Line) -> Finding {
         Table::Dates => tally::agrees_if(dates::agrees_with(line)),
         Table::Easters => tally::agrees_if(easters::agrees_with(line)),
         Table::Lengths => hebrew_years::compare_with(line),
+        Table::Weekdays => tally::agrees_if(weekdays::agrees_with(line)),
     }
 }
 
