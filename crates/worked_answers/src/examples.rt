@@ -34,7 +34,7 @@ fn show_easters(good: &mut bool) {
     show::easter_of(good, 11, 1943);
 }
 
-// M-101, M-106, M-108.
+// M-101, M-103, M-106, M-108.
 fn show_requests(good: &mut bool) {
     show::day_of(good, 15, 1879, 1, 1);
     show::day_of(good, 14, 157, 1, 1);
@@ -43,6 +43,7 @@ fn show_requests(good: &mut bool) {
     show::date_of(good, 7, 2380687);
     show::date_of(good, 7, 2380688);
     show_positions(good);
+    show_weekdays(good);
 }
 
 // A strip in each kind of year, months beside it, none, and a position that no year has.
@@ -60,4 +61,21 @@ fn show_positions(good: &mut bool) {
     show::position_of(good, 18, 5784, 7);
     show::position_of(good, 18, 5785, 7);
     show::position_of(good, 18, 5785, 14);
+}
+
+// 1 January 2000 is a Saturday, day 0 a Monday, the last day a Friday, the last Republican day a Tuesday.
+fn show_weekdays(good: &mut bool) {
+    show::date_of(good, 11, 2451545);
+    show::day_with_weekday(good, 11, 2000, 1, 1, 6);
+    show::day_with_weekday(good, 11, 2000, 1, 1, 0);
+    show::day_with_weekday(good, 11, 2000, 1, 1, 5);
+    show::day_with_weekday(good, 11, 2000, 1, 1, 7);
+    show::day_with_weekday(good, 11, 2000, 1, 1, 8);
+    show::day_with_weekday(good, 11, 2000, 1, 1, u64::MAX);
+    show::day_with_weekday(good, 10, -4712, 1, 1, 1);
+    show::day_with_weekday(good, 10, -4712, 1, 1, 7);
+    show::day_with_weekday(good, 11, 9999, 12, 31, 5);
+    show::day_with_weekday(good, 11, 9999, 12, 31, 6);
+    show::day_with_weekday(good, 7, 14, 4, 10, 2);
+    show::day_with_weekday(good, 7, 14, 4, 10, 3);
 }

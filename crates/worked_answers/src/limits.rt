@@ -9,6 +9,7 @@ pub(crate) fn show_all(good: &mut bool) {
     show_months(good);
     show_days(good);
     show_ended_dates(good);
+    show_weekdays(good);
     put(good, b"\nLimits: day to date\n");
     show_day_numbers(good);
     put(good, b"\nLimits: position of a year\n");
@@ -64,6 +65,19 @@ fn show_ended_dates(good: &mut bool) {
     show::day_of(good, 7, 15, 13, 6);
     show::day_of(good, 7, 20000, 1, 1);
     show::day_of(good, 7, 20001, 1, 1);
+}
+
+// 13 is tried last: each other refusal of a date comes before it.
+fn show_weekdays(good: &mut bool) {
+    show::day_with_weekday(good, 16, 2000, 1, 1, 8);
+    show::day_with_weekday(good, 10, -4713, 12, 31, 8);
+    show::day_with_weekday(good, 18, 5785, 7, 1, 8);
+    show::day_with_weekday(good, 11, 1900, 2, 29, 8);
+    show::day_with_weekday(good, 7, 14, 4, 11, 8);
+    show::day_with_weekday(good, 11, 10000, 1, 1, 8);
+    show::day_with_weekday(good, 7, 14, 13, 6, u64::MAX);
+    show::day_with_weekday(good, 7, 14, 13, 5, u64::MAX);
+    show::day_with_weekday(good, 11, 20000, 2, 29, u64::MAX);
 }
 
 fn show_day_numbers(good: &mut bool) {

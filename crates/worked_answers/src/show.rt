@@ -19,17 +19,55 @@ fn put_date(good: &mut bool, date: Date) {
     put_number(good, date.day);
 }
 
-pub(crate) fn day_of(good: &mut bool, calendar: u64, year: i64, month: u64, day: u64) {
-    let date = Date { year, month, day };
+fn put_weekday(good: &mut bool, weekday: u64) {
+    put(good, b" weekday ");
+    put_number(good, weekday);
+}
+
+fn put_question(good: &mut bool, calendar: u64, date: Date) {
     put_calendar(good, calendar);
     put(good, b" ");
     put_date(good, date);
+}
+
+fn put_day(good: &mut bool, answer: Day) {
     put(good, b": ");
-    match calendars::date_to_day(calendar, date) {
+    match answer {
         Day::Number(n) => put_number(good, n),
         Day::Refused(why) => put_refusal(good, why),
     }
     put(good, b"\n");
+}
+
+// The day of a date with no weekday handed in.
+pub(crate) fn day_of(good: &mut bool, calendar: u64, year: i64, month: u64, day: u64) {
+    let date = Date {
+        year,
+        month,
+        day,
+        weekday: 0,
+    };
+    put_question(good, calendar, date);
+    put_day(good, calendars::date_to_day(calendar, date));
+}
+
+pub(crate) fn day_with_weekday(
+    good: &mut bool,
+    calendar: u64,
+    year: i64,
+    month: u64,
+    day: u64,
+    weekday: u64,
+) {
+    let date = Date {
+        year,
+        month,
+        day,
+        weekday,
+    };
+    put_question(good, calendar, date);
+    put_weekday(good, weekday);
+    put_day(good, calendars::date_to_day(calendar, date));
 }
 
 pub(crate) fn date_of(good: &mut bool, calendar: u64, day: u64) {
@@ -38,7 +76,10 @@ pub(crate) fn date_of(good: &mut bool, calendar: u64, day: u64) {
     put_number(good, day);
     put(good, b": ");
     match calendars::day_to_date(calendar, day) {
-        Dated::On(date) => put_date(good, date),
+        Dated::On(date) => {
+            put_date(good, date);
+            put_weekday(good, date.weekday);
+        }
         Dated::Refused(why) => put_refusal(good, why),
     }
     put(good, b"\n");
