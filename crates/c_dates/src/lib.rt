@@ -3,6 +3,7 @@
 use calendars::Dated;
 use calendars::Position;
 ghost use mathlib.Core.Path.{_≡_};
+ghost use Prim.Native.Nat.{_/_, _%_};
 ghost use Rattle.calendar_rules.specs.Answers.{dayAnswerWith, dateAnswer, positionAnswer};
 ghost use Rattle.calendars.specs.Paper.{datePaper, positionPaper};
 ghost use Rattle.c_dates.specs.Fields.{dayFields, dateFields, positionFields};
@@ -39,7 +40,17 @@ const MONTH: u64 = 1;
 
 const STRIP: u64 = 2;
 
-// The day of a date: by its one number, since an enum would be handed over through memory.
+fn day_fields(r: u64) -> DayFields
+    ensures { λ x. ⌜ (x .number ≡ r / 4294967296) × (x .day ≡ r % 4294967296) ⌝ }
+{
+    DayFields {
+        number: r / 0x1_0000_0000,
+        day: r % 0x1_0000_0000,
+    }
+}
+
+// The day of a date: by its one number, since an enum would be handed over through memory. Hebrew dates without a weekday are asked for apart: the compiler
+// then keeps the Hebrew part a function of its own, and the other calendars need not save the registers that it uses.
 #[no_mangle]
 pub extern "C" fn ijok_date_to_day(
     calendar: u64,
@@ -50,11 +61,12 @@ pub extern "C" fn ijok_date_to_day(
 ) -> DayFields
     ensures { λ r. ⌜ dayFields r ≡ dayAnswerWith calendar year month day weekday ⌝ }
 {
-    let r = weekdays::packed_day(calendar, year, month, day, weekday);
-    DayFields {
-        number: r / 0x1_0000_0000,
-        day: r % 0x1_0000_0000,
+    if calendar == 18 {
+        if weekday == 0 {
+            return day_fields(numbering::hebrew_day(year, month, day));
+        }
     }
+    day_fields(weekdays::packed_day(calendar, year, month, day, weekday))
 }
 
 // The date of a day.

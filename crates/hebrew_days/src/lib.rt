@@ -126,7 +126,29 @@ fn date_in(y: u64, year: Year, day: u64) -> Place
     parts::place_in(0, y as u32, p + late + 1, rest - start + 1)
 }
 
+// The year of a day.
+struct YearOn {
+    number: u64,
+    year: Year,
+}
+
 // By one division, and the year before where that is one too high; for the days up to the last, whose years the products are right for.
+fn year_on(day: u64) -> YearOn
+    requires { ⌜ (347998 ≤ day) × (day ≤ 5373484) ⌝ }
+    ensures { λ r. ⌜ YearOf day (r .number) × HebrewYear (r .number) (r .year .start) (r .year .leap) (r .year .kind) × (r .year .leap ≤ 1) × (r .number ≤ 65537) ⌝ }
+{
+    let i = (day - 347970) * 98496 / 35975351;
+    let year = gates::year_after(i as u16);
+    if day < year.start {
+        let before = gates::year_after((i - 1) as u16);
+        return YearOn {
+            number: i,
+            year: before,
+        };
+    }
+    YearOn { number: i + 1, year }
+}
+
 pub fn date_on(day: u32) -> Place
     ensures { λ r. ⌜ PlaceTo hebrew lastDay day (r .year) (r .month) (r .day) ⌝ }
 {
@@ -137,10 +159,6 @@ pub fn date_on(day: u32) -> Place
         return parts::nowhere();
     }
     let n = day as u64;
-    let i = (n - 347970) * 98496 / 35975351;
-    let year = gates::year_after(i as u16);
-    if n < year.start {
-        return date_in(i, gates::year_after((i - 1) as u16), n);
-    }
-    date_in(i + 1, year, n)
+    let on = year_on(n);
+    date_in(on.number, on.year, n)
 }

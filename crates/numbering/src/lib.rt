@@ -128,7 +128,7 @@ fn gregorian_day(year: i64, month: u64, day: u64) -> u64
 }
 
 // Calendar 18.
-fn hebrew_day(year: i64, month: u64, day: u64) -> u64
+pub fn hebrew_day(year: i64, month: u64, day: u64) -> u64
     ensures { λ r. ⌜ r ≡ packedDay (dayAnswer 18 year month day) ⌝ }
 {
     if year < 1 {
