@@ -568,15 +568,15 @@ module _ (c n : ℕ) where
       none-asked : calendar c ≡ Option.none → dateAnswer c n ≡ noDateAnswer 1
       none-asked e = of-answer (λ a. a ≡ noDateAnswer 1) (λ f. refl) (λ K l. never (sym (l .row) ∙ e))
 
-  pub date-given : (dateAnswer c n .month ≡ 0 → ⊥) → (0 ≡ dateAnswer c n .number) × (weekdayOf n ≡ dateAnswer c n .weekday) × (n ≤ lastDay)
+  pub date-given : (dateAnswer c n .month ≡ 0 → ⊥) → (0 ≡ dateAnswer c n .number) × (weekdayOf n ≡ dateAnswer c n .weekday)
   unfolding dateFor
   date-given =
-      of-answer (λ a. (a .month ≡ 0 → ⊥) → (0 ≡ a .number) × (weekdayOf n ≡ a .weekday) × (n ≤ lastDay)) (λ e h. absurd (h refl))
-      (λ K l. in-range K (dayOut K n) refl (ended K n))
+      of-answer (λ a. (a .month ≡ 0 → ⊥) → (0 ≡ a .number) × (weekdayOf n ≡ a .weekday)) (λ e h. absurd (h refl))
+      (λ K l. in-range K (dayOut K n) (ended K n))
     where
-      in-range : (K : Calendar) (t : Bool) → dayOut K n ≡ t → (u : Bool)
+      in-range : (K : Calendar) (t u : Bool)
           → let a = cond t (noDateAnswer 5) (cond u (noDateAnswer 17) (dated K (dateOn K n) (weekdayOf n))) in
-          (a .month ≡ 0 → ⊥) → (0 ≡ a .number) × (weekdayOf n ≡ a .weekday) × (n ≤ lastDay)
-      in-range K true e u h = absurd (h refl)
-      in-range K false e true h = absurd (h refl)
-      in-range K false e false h = (refl, refl, ltb-false lastDay n (neither (ltb lastDay n) (ltb n (K .firstDay)) e .0))
+          (a .month ≡ 0 → ⊥) → (0 ≡ a .number) × (weekdayOf n ≡ a .weekday)
+      in-range K true u h = absurd (h refl)
+      in-range K false true h = absurd (h refl)
+      in-range K false false h = (refl, refl)

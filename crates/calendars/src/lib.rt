@@ -133,8 +133,7 @@ fn no_date(c: u64, day: u64) -> Dated
     Dated::Refused(Refusal::DayOutOfRange)
 }
 
-// The date of a day. The refusals 1, 5, 17 are tried. A day that has a date is below 2^23, which is said again where its weekday is asked for, so that the
-// compiler divides by 7 with one short product.
+// The date of a day. The refusals 1, 5, 17 are tried.
 pub fn day_to_date(calendar: u64, day: u64) -> Dated
     ensures { λ r. ⌜ datePaper r ≡ dateAnswer calendar day ⌝ }
 {
@@ -146,6 +145,6 @@ pub fn day_to_date(calendar: u64, day: u64) -> Dated
         year: p.year,
         month: p.month,
         day: p.day,
-        weekday: weekdays::weekday_of(day % 0x80_0000),
+        weekday: weekdays::weekday_of(day),
     })
 }

@@ -146,7 +146,10 @@ fn year_on(day: u64) -> YearOn
             year: before,
         };
     }
-    YearOn { number: i + 1, year }
+    YearOn {
+        number: i + 1,
+        year,
+    }
 }
 
 pub fn date_on(day: u32) -> Place

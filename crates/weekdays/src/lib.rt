@@ -4,10 +4,14 @@ ghost use Rattle.counting.specs.Answers.{weekdayOf};
 ghost use Rattle.calendar_rules.specs.Answers.{dayAnswerWith};
 ghost use Rattle.asking.specs.Steps.{packedDay, packedTried};
 
-// The weekday of a day.
+// The weekday of a day. Where the product is right, as for every day that has a date, the remainder comes from the fraction of day / 7.
 pub fn weekday_of(day: u64) -> u64
     ensures { λ r. ⌜ r ≡ weekdayOf day ⌝ }
 {
+    if day < 0x4000_0000 {
+        let fraction = day * 613566757 % 0x1_0000_0000;
+        return fraction * 7 / 0x1_0000_0000 + 1;
+    }
     day % 7 + 1
 }
 

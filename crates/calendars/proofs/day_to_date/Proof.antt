@@ -1,18 +1,11 @@
 -- `calendars::day_to_date` meets its contract.
-use mathlib.Core.Path.{_≡_, sym, ap, _∙_}
-use Prim.Native.Nat.{ℕ, _%_, _≤_}
-use native.Mathlib.Omega.{arith}
+use mathlib.Core.Path.{sym, _∙_}
 use mir.Syntax.{w64}
 use mir.ValLaws.{toZ-ofZ}
-use Rattle.counting.specs.Answers.{weekdayOf, lastDay}
 use Rattle.asking.proofs.Answers.{date-given}
 use borrow.Author.Needs.{needs}
 use Rattle.calendars.proofs.day_to_date.Statement.{statement}
 use Rattle.calendars.proofs.day_to_date.Tie as tie
-
--- a day that has a date is not cut
-below : {n : ℕ} → n ≤ lastDay → n % 8388608 ≡ n
-below h = omega arith
 
 place-requires : tie.Need-place-requires
 place-requires c κs = search needs
@@ -37,7 +30,7 @@ returns-2 c =
     let n = e .if1 .left in
     let z = date-given (s .args .calendar) (s .args .day) (λ e. n (f .month ∙ e)) in
     let g = f .rest n in
-    let w = a .weekday-of .ensures ∙ ap weekdayOf (below (z .2)) ∙ z .1 in
+    let w = a .weekday-of .ensures ∙ z .1 in
     rw (toZ-ofZ w64 (p .place .result .year) (record { sfits = c .struct-told .given .0 .1 }))
     (λ i. record { number = z .0 i; year = g .0 i; month = f .month i; day = g .1 i; weekday = w i })
 

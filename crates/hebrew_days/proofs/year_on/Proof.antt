@@ -21,7 +21,6 @@ cast-year-after c = search needs
 year-after-requires : tie.Need-year-after-requires
 year-after-requires c κs = search needs
 
-
 sub-year-after : tie.Need-sub-year-after
 unfolding estimate
 sub-year-after c =
