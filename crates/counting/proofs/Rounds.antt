@@ -20,7 +20,7 @@ use Rattle.counting.specs.Answers.{noDay, dayOut, after, ended, dayNumbe
 use Rattle.counting.specs.Answers.{weekdayOf, Proper}
 use Rattle.counting.specs.Order.{Earlier}
 use Rattle.counting.specs.Order.Earlier.{by-year, by-month, by-day}
-use Rattle.basics.proofs.Cases.{neither}
+use Rattle.basics.proofs.Cases.{neither, cond-elim}
 use Rattle.counting.proofs.Given.{passed, none-applies, day-is}
 use Rattle.counting.proofs.Signs.{year-back, place-back, not-before, order-kept}
 use Rattle.counting.proofs.Counting.{date-is, counted, orders-agree}
@@ -161,6 +161,13 @@ module _ (K : Calendar) where
       let r = through (ended K n) (noDateAnswer 17) _ (omega arith) (q .1) in
       let N = neither (ltb lastDay n) (ltb n (K .firstDay)) (q .0) in
       (ltb-false n (K .firstDay) (N .1), in-last (K .end) (ltb-false lastDay n (N .0)) (r .0))
+
+  -- a day that is refused has no weekday
+  pub weekday-0 : (n : ℕ) → ¬ (dateFor K n .number ≡ 0) → dateFor K n .weekday ≡ 0
+  unfolding dateFor
+  weekday-0 n =
+      cond-elim (λ (a : DateAnswer). ¬ (a .number ≡ 0) → a .weekday ≡ 0) (dayOut K n) _ _ (λ e h. refl)
+      (λ e. cond-elim (λ (a : DateAnswer). ¬ (a .number ≡ 0) → a .weekday ≡ 0) (ended K n) _ _ (λ e h. refl) (λ e h. absurd (h refl)))
 
   -- the day after has the date that follows
   pub next-date : (n : ℕ) → K .firstDay ≤ n → dateOn K (suc n) ≡ next (years K) (dateOn K n)
