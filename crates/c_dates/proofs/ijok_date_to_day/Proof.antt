@@ -1,6 +1,7 @@
 -- `c_dates::ijok_date_to_day` meets its contract.
 use mathlib.Core.Path.{_≡_, sym, ap, _∙_}
 use Prim.Native.Nat.{ℕ, _/_, _%_}
+use native.Mathlib.Omega.{arith}
 use lib.IntN.{ℤ}
 use mir.Syntax.{w64}
 use mir.ValLaws.{toZ-ofZ}
@@ -30,7 +31,9 @@ returns c =
     let h = c .before in
     let t = h .before in
     let s = t .before .before in
-    rw (t .before .if1 .taken, t .if2 .taken)
+    let e : s .args .calendar ≡ 18 = omega (arith, t .before .if1 .taken) in
+    let f : s .args .weekday ≡ 0 = omega (arith, t .if2 .taken) in
+    rw (e, f)
     (split 18 (s .args .year) (s .args .month) (s .args .day) 0 (h .hebrew-day .result) (c .day-fields .result) (c .day-fields .ensures)
     ((rw (toZ-ofZ w64 (s .args .year) (s .fits .year)) at (h .hebrew-day .ensures))
     ∙ ap packedDay (sym (no-weekday 18 (s .args .year) (s .args .month) (s .args .day)))))
