@@ -1,7 +1,8 @@
 -- What is shown of the sixteen calendars, on one page. It rests on these definitions: the rows (`table`, `calendar` of specs/Calendars.antt), what is answered
--- for a number (`dayAnswerWith`, and `dayAnswer` without a weekday, `dateAnswer`, `positionAnswer` of specs/Answers.antt; an answer whose number is 0 is no
--- refusal), and of crate counting what a calendar answers (`dayWith`, `dayFor`, `dateFor`, `positionFor`), the date that follows (`next`), a date counted from the first year (`Date`), the order of dates
--- (`Earlier`), which number is given (`Given`) and the cases of a position (`Is`).
+-- for a number (`dayAnswerWith`, and without a weekday `dayAnswer`, `dateAnswer`, `positionAnswer` of specs/Answers.antt; an answer whose number is 0 is no
+-- refusal), and of crate counting what a calendar answers (`dayWith`, `dayFor`, `dateFor`, `positionFor`), the weekday of a day (`weekdayOf`), the date that
+-- follows (`next`), a date counted from the first year (`Date`), the order of dates (`Earlier`), which number is given (`Given`) and the cases of a position
+-- (`Is`).
 -- What counting's claims page shows of any calendar in which every year has days holds of each that is listed; here it is said by number.
 use mathlib.Core.Path.{_≡_, refl, sym, ap, subst, _∙_}
 use mathlib.Core.Bool.{Bool, true, false, cond}

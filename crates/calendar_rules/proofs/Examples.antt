@@ -1,5 +1,5 @@
 -- The worked examples of specs/Examples.antt, computed: the days of the years by counting them one by one.
-use mathlib.Core.Path.{_≡_, refl, sym, ap, _∙_}
+use mathlib.Core.Path.{_≡_, refl, ap}
 use Prim.Native.Nat.{ℕ}
 use lib.IntN.{ℤ, pos}
 use Rattle.basics.specs.Every.{All}

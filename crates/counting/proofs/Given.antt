@@ -96,13 +96,10 @@ module _ (K : Calendar) (n : ℕ) where
   from-5 (before-first f) = omega arith
   from-5 (after-end e f) = omega arith
 
-  no-13 : ¬ OfDay K n 13
-  no-13 a = go a refl
-    where
-      go : {j : ℕ} → OfDay K n j → ¬ (j ≡ 13)
-      go (above-5373484 f) e = omega arith
-      go (before-first f) e = omega arith
-      go (after-end e f) g = omega arith
+  not-13 : {j : ℕ} → OfDay K n j → ¬ (j ≡ 13)
+  not-13 (above-5373484 f) e = omega arith
+  not-13 (before-first f) e = omega arith
+  not-13 (after-end e f) g = omega arith
 
   -- so not 1
   pub no-1 : ¬ OfDay K n 1
@@ -268,10 +265,10 @@ module _ (K : Calendar) (y : ℤ) (m d w : ℕ) where
       ((λ e. omega arith), ((λ e. omega arith), ((λ e. omega arith), ((λ e. omega arith), ((λ e. omega arith), tt))))) rest-given
 
   -- it applies exactly where the weekday does not fit
-  not-13 : FitsDay w (dayNumber K y m d) → ¬ OfDate K y m d w 13
-  not-13 f (its-year a) = omega (arith, only-2 K y a)
-  not-13 f (its-day a) = no-13 K (dayNumber K y m d) a
-  not-13 f (other-weekday n) = n f
+  date-not-13 : FitsDay w (dayNumber K y m d) → ¬ OfDate K y m d w 13
+  date-not-13 f (its-year a) = omega (arith, only-2 K y a)
+  date-not-13 f (its-day a) = not-13 K (dayNumber K y m d) a refl
+  date-not-13 f (other-weekday n) = n f
 
   pub day-given : Given (OfDate K y m d w) dateOrder (dayWith K y m d w .number)
   day-given =
@@ -286,4 +283,4 @@ module _ (K : Calendar) (y : ℤ) (m d w : ℕ) where
           → dayFor K y m d .number ≡ 0
           → Given (OfDate K y m d w) (13 ∷ []) (dayWith K y m d w .number)
       weekday g (inl t) e = rw (t .0) (first (other-weekday (λ f. t .2 (rw g f))))
-      weekday g (inr t) e = rw (t .0, e) (later (not-13 (rw g at (t .1 e))) done)
+      weekday g (inr t) e = rw (t .0, e) (later (date-not-13 (rw g at (t .1 e))) done)

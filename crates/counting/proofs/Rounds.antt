@@ -15,7 +15,7 @@ use borrow.Author.Tests.{eqb-false, eq-eqb, ltb-true, ltb-false, lt-ltb, le-ltb,
 use Rattle.counting.specs.Calendar.{total, Date, Valid, len, firstFrom, newYear, next, dateAt, Before}
 use Rattle.counting.specs.Calendar.Before.{by-year as before-by-year, by-month as before-by-month, by-day as before-by-day}
 use Rattle.counting.specs.Years.{yearAt, yearsFrom}
-use Rattle.counting.specs.Answers.{Calendar, years, DayAnswer, DateAnswer, lastDay, lastYear, yearOut, lengthIn, monthZero, noDaysThatYear, noMonth}
+use Rattle.counting.specs.Answers.{Calendar, years, DateAnswer, lastDay, lastYear, yearOut, lengthIn, monthZero, noDaysThatYear, noMonth}
 use Rattle.counting.specs.Answers.{noDay, dayOut, after, ended, dayNumber, dateOn, yearOn, theDate, dated, noDayAnswer, noDateAnswer, dayFor, dateFor, IsDate, lastWith, lastOf}
 use Rattle.counting.specs.Answers.{weekdayOf, Proper}
 use Rattle.counting.specs.Order.{Earlier}

@@ -44,7 +44,7 @@ lastDay = 5373484
 abbrev pub lastYear : ℤ
 lastYear = pos 20000
 
--- the weekday of a day, 1 Monday to 7 Sunday: day 0 is a Monday
+-- the weekday of a day, 1 Monday to 7 Sunday: day 0 is a Monday (docs/RULES.md, "Weekdays")
 abbrev pub weekdayOf : ℕ → ℕ
 weekdayOf n = n % 7 + 1
 

@@ -1,6 +1,6 @@
 -- `weekdays::weekday_of` meets its contract.
 use mathlib.Core.Path.{_≡_}
-use Prim.Native.Nat.{ℕ, _*_, _/_, _%_, _<_}
+use Prim.Native.Nat.{ℕ, _*_, _/_, _<_}
 use native.Mathlib.Omega.{arith}
 use borrow.Author.Needs.{needs}
 use Rattle.weekdays.proofs.weekday_of.Statement.{statement}
