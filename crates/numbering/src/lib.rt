@@ -98,20 +98,24 @@ fn in_time(n: u64) -> u64
     n
 }
 
-// 17, tried on the day of a Republican date or on what refused it: a day that is out of range is after the end.
-fn end_tried(r: u64) -> u64
-    ensures { λ x. ⌜ x ≡ endTried 7 r ⌝ }
+// A Republican day, 17 tried: a day that is out of range is after the end.
+fn before_end(n: u64) -> u64
+    ensures { λ r. ⌜ r ≡ endTried 7 (inRange n) ⌝ }
 {
-    if r <= listing::last_day(7) {
-        return r;
-    }
-    if r < 0x1_0000_0000 {
+    if listing::last_day(7) < n {
         return 0x11_0000_0000;
     }
-    if r == 0x5_0000_0000 {
-        return 0x11_0000_0000;
+    n
+}
+
+// A day of any calendar, 17 and 5 tried.
+fn limited(calendar: u64, n: u64) -> u64
+    ensures { λ r. ⌜ r ≡ endTried calendar (inRange n) ⌝ }
+{
+    if calendar == 7 {
+        return before_end(n);
     }
-    r
+    in_time(n)
 }
 
 // Calendar 11.
@@ -147,10 +151,10 @@ pub fn hebrew_day(year: i64, month: u64, day: u64) -> u64
     in_time(m.start + (day - 1))
 }
 
-// All others, 17 not yet tried.
+// All others.
 fn other_day(calendar: u64, year: i64, month: u64, day: u64) -> u64
     requires { ⌜ (calendar ≡ 11 → ⊥) × (calendar ≡ 18 → ⊥) ⌝ }
-    ensures { λ r. ⌜ endTried calendar r ≡ packedDay (dayAnswer calendar year month day) ⌝ }
+    ensures { λ r. ⌜ r ≡ packedDay (dayAnswer calendar year month day) ⌝ }
 {
     if listing::year_inside(year) {
         if month == 0 {
@@ -160,7 +164,7 @@ fn other_day(calendar: u64, year: i64, month: u64, day: u64) -> u64
         if (day == 0) | (m.days < day) {
             return no_day(calendar, year, m.days);
         }
-        return in_time(m.start + (day - 1));
+        return limited(calendar, m.start + (day - 1));
     }
     listing::no_month(calendar, year)
 }
@@ -175,9 +179,5 @@ pub fn packed_day(calendar: u64, year: i64, month: u64, day: u64) -> u64
     if calendar == 18 {
         return hebrew_day(year, month, day);
     }
-    let r = other_day(calendar, year, month, day);
-    if calendar != 7 {
-        return r;
-    }
-    end_tried(r)
+    other_day(calendar, year, month, day)
 }

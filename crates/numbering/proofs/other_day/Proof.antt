@@ -1,5 +1,5 @@
 -- `numbering::other_day` meets its contract.
-use mathlib.Core.Path.{_≡_, sym, ap, subst, _∙_}
+use mathlib.Core.Path.{_≡_, sym, subst, _∙_}
 use Prim.Native.Nat.{ℕ, _+_, _-_, _≤_}
 use native.Mathlib.Omega.{arith}
 use mathlib.Core.Bool.{true, _||_}
@@ -13,7 +13,7 @@ use Rattle.calendar_rules.specs.Answers.{dayAnswer}
 use Rattle.months.specs.Parts.{MonthOf}
 use Rattle.asking.specs.Steps.{yearInside, inRange, endTried, packedDay, Sought}
 use Rattle.asking.proofs.Since.{outside, Since, since}
-use Rattle.asking.proofs.Answers.{day-none, nowhere-year, nowhere-0, not-found, found, none-stays, not-found-stays}
+use Rattle.asking.proofs.Answers.{day-none, nowhere-year, nowhere-0, not-found, found}
 use borrow.Author.Needs.{needs}
 use Rattle.numbering.proofs.other_day.Statement.{statement}
 use Rattle.numbering.proofs.other_day.Tie as tie
@@ -69,7 +69,7 @@ returns c =
     let t = c .before in
     let s = t .before .before .before in
     let n = s .args .calendar in
-    ap (endTried n) (rw (year-is s) at (c .no-month .ensures)) ∙ none-stays n (s .args .year)
+    (rw (year-is s) at (c .no-month .ensures))
     ∙ day-none n (s .args .year) (s .args .month) (nowhere-0 n (s .args .year) (s .args .month) (t .if2 .taken))
     (s .args .day)
 
@@ -90,24 +90,23 @@ returns-2 c =
     let t = c .before in
     let m = t .before .before in
     let s = m .before .before .before .before .before in
-    ap (endTried (s .args .calendar)) (rw (year-is s) at (c .no-day .ensures))
-    ∙ not-found-stays (s .args .calendar) (s .args .year) (m .month-in .result .days)
+    (rw (year-is s) at (c .no-day .ensures))
     ∙ not-found (s .args .month) (month m) (m .before .before .if2 .left) (s .args .day) (t .if3 .taken)
 
-sub-in-time : tie.Need-sub-in-time
-sub-in-time c = there c .0
+sub-limited : tie.Need-sub-limited
+sub-limited c = there c .0
 
-add-in-time : tie.Need-add-in-time
-add-in-time c = let t = there (c .before) in omega (arith, t .0, t .1, t .2)
+add-limited : tie.Need-add-limited
+add-limited c = let t = there (c .before) in omega (arith, t .0, t .1, t .2)
 
-in-time-requires : tie.Need-in-time-requires
-in-time-requires c κs = search needs
+limited-requires : tie.Need-limited-requires
+limited-requires c κs = search needs
 
 returns-3 : tie.Need-returns-3
 returns-3 c =
     let e = c .before .before in
     let s = e .before .before .before .before .before .before .before in
-    ap (endTried (s .args .calendar)) (c .in-time .ensures) ∙ there e .3
+    c .limited .ensures ∙ there e .3
 
 no-month-requires-2 : tie.Need-no-month-requires-2
 no-month-requires-2 c κs = search needs
@@ -117,7 +116,7 @@ returns-4 c =
     let e = c .before in
     let s = e .before .before in
     let n = s .args .calendar in
-    ap (endTried n) (rw (year-is s) at (c .no-month2 .ensures)) ∙ none-stays n (s .args .year)
+    (rw (year-is s) at (c .no-month2 .ensures))
     ∙ day-none n (s .args .year) (s .args .month) (nowhere-year n (s .args .year) (s .args .month) (left e)) (s .args .day)
 
 pub other-day-spec : {M : Type 1} → statement M
@@ -132,9 +131,9 @@ other-day-spec =
     month-in-requires
     no-day-requires
     returns-2
-    sub-in-time
-    add-in-time
-    in-time-requires
+    sub-limited
+    add-limited
+    limited-requires
     returns-3
     no-month-requires-2
     returns-4)
