@@ -199,35 +199,13 @@ module _ {c : ℕ} {y : ℤ} (x : YearIn c y) (m : ℕ) where
           rw (day-asked (x .listed) y m d, day-for (x .calendar) y m (x .inside) d, ne-eqb m 0 n, eq-eqb daysOf 0 (omega arith)) refl in
           p .none (omega arith) ∙ ap packedDay (sym e)
 
--- ---- 17, tried last
+-- ---- 17, tried on a day
 
 and-false : (t : Bool) → (t && false) ≡ false
 and-false true = refl
 and-false false = refl
 
--- it leaves the other refusals
-refusal-stays : (c k : ℕ) → 1 ≤ k → k ≤ 4 → endTried c (k * 2 ^ 32) ≡ k * 2 ^ 32
-unfolding endTried tryEnd
-refusal-stays c k h g = go (calendar c)
-  where
-    stays : (e : Option ℕ) → tryEnd e (k * 2 ^ 32) ≡ k * 2 ^ 32
-    stays Option.none = refl
-    stays (Option.some e) =
-        rw (le-ltb (k * 2 ^ 32) (2 ^ 32) (omega arith), ne-eqb (k * 2 ^ 32) (5 * 2 ^ 32) (omega arith), and-false (ltb e (k * 2 ^ 32))) refl
-
-    go : (o : Option Calendar) → ofListed o (k * 2 ^ 32) (λ K. tryEnd (K .end) (k * 2 ^ 32)) ≡ k * 2 ^ 32
-    go Option.none = refl
-    go (Option.some K) = stays (K .end)
-
-pub none-stays : (c : ℕ) (y : ℤ) → endTried c (packedNone c y) ≡ packedNone c y
-none-stays c y = let w = none-within c y in refusal-stays c (noneNumber c y) (w .0) (omega (arith, w .1))
-
-pub not-found-stays : (c : ℕ) (y : ℤ) (days : ℕ)
-    → let r = cond (eqb days 0) (packedNone c y) (4 * 2 ^ 32) in endTried c r ≡ r
-not-found-stays c y days =
-    cond-elim (λ (r : ℕ). endTried c r ≡ r) (eqb days 0) _ _ (λ e. none-stays c y) (λ e. refusal-stays c 4 (omega arith) (omega arith))
-
--- and of a day it makes what is answered
+-- of a day it makes what is answered
 pub end-tried : {c : ℕ} {K : Calendar} → Listed c K → (n : ℕ) → n < 2 ^ 32 → endTried c (inRange n) ≡ packedDay (onDay K n)
 unfolding endTried tryEnd
 end-tried {c} {K} l n s = rw (l .row, end-is l) (go (eqb c 7) (ltb lastDay n) refl (ltb 2380687 n) refl)

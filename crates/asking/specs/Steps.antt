@@ -72,7 +72,7 @@ onDay K n =
     (cond (ltb lastDay n) (noDayAnswer 5)
     (record { number = 0; day = n }))
 
--- the same as one number in two steps: 5 is tried on the day, and 17 on the day or on what refused it
+-- the same as one number in two steps: 5 is tried on the day, and 17 on the day or on that 5
 abbrev pub inRange : ℕ → ℕ
 inRange n = cond (ltb lastDay n) (5 * 2 ^ 32) n
 

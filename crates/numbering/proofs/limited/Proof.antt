@@ -1,5 +1,5 @@
 -- `numbering::limited` meets its contract.
-use mathlib.Core.Path.{_≡_, ap, sym, _∙_}
+use mathlib.Core.Path.{_≡_, ap, _∙_}
 use Prim.Native.Nat.{ℕ}
 use native.Mathlib.Omega.{arith}
 use Rattle.asking.specs.Steps.{inRange, endTried}
