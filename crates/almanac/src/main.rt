@@ -1,4 +1,6 @@
 // Answers what the libraries know, in decimal text: a request given as arguments, or requests from standard input, one a line. `almanac help` lists them.
+#![tactic(auto)]
+
 mod answering;
 mod arguments;
 mod dates;

@@ -7,11 +7,11 @@ use Rattle.refusals.specs.declared.Refusal.TheVariants.{UnknownCalendar, YearOut
 use Rattle.refusals.specs.declared.Refusal.TheVariants.{CodeOutOfLimits, NoLine, MalformedFrame, WrongDay, LineOutOfLimits, BufferTooShort}
 use Rattle.refusals.specs.declared.Refusal.TheVariants.{WrongWeekday, CalendarEnded}
 use Rattle.refusals.specs.Number.{number_of}
-use Rattle.phrases.specs.Phrases.{refusalText}
-use Rattle.answer_lines.specs.Lines.{orRefusal}
+use Rattle.phrases.specs.Phrases.{refusal_text}
+use Rattle.answer_lines.specs.Lines.{or_refusal}
 
-pub refused : (why : Refusal) (said : List ℕ) → orRefusal (number_of why) said ≡ refusalText (number_of why)
-unfolding orRefusal
+pub refused : (why : Refusal) (said : List ℕ) → or_refusal (number_of why) said ≡ refusal_text (number_of why)
+unfolding or_refusal
 refused UnknownCalendar said = refl
 refused YearOutOfRange said = refl
 refused NoSuchMonth said = refl

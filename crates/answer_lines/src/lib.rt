@@ -1,16 +1,18 @@
 // The lines that answer requests, each built in a lent buffer: a function answers where the line ends.
 // `proofs/Claims.antt` is the page to read first.
+#![tactic(auto)]
+
 ghost use Rattle.refusals.specs.Number.{number_of};
-ghost use Rattle.phrases.specs.Phrases.{refusalText};
-ghost use Rattle.calendars.specs.Paper.{dayPaper, datePaper, positionPaper};
-ghost use Rattle.easter.specs.Paper.{easterPaper};
+ghost use Rattle.phrases.specs.Phrases.{refusal_text};
+ghost use Rattle.calendars.specs.Paper.{day_paper, date_paper, position_paper};
+ghost use Rattle.easter.specs.Paper.{easter_paper};
 ghost use Rattle.std.specs.Prelude.{◌++◌};
 ghost use Rattle.decimal.specs.Decimal.{text};
 ghost use Rattle.decimal.specs.Inner.{Counts};
 ghost use Rattle.words.specs.Text.{bytes};
 ghost use Rattle.texts.specs.Writing.{Writes};
-ghost use Rattle.texts.specs.Columns.{leftIn};
-ghost use Rattle.answer_lines.specs.Lines.{dayText, dayLine, dateText, dateLine, firstDayLine, heading, dateColumns, calendarRow, easterRow, firstRow, kindName, positionRow, answerRow};
+ghost use Rattle.texts.specs.Columns.{left_in};
+ghost use Rattle.answer_lines.specs.Lines.{day_text, day_line, date_text, date_line, first_day_line, heading, date_columns, calendar_row, easter_row, first_row, kind_name, position_row, answer_row};
 
 use calendars::{Date, Dated, Day, Position};
 use easter::EasterDate;
@@ -24,7 +26,7 @@ use texts::{append, append_byte, append_left};
 // ---- lines
 
 fn append_day(day: u64, line: &mut [u8]) -> usize
-    ensures { Writes 0 (dayText day) line.old line.new result }
+    ensures { Writes 0 (day_text day) line.old line.new result }
 {
     let a = append_number(0, day, line);
     let b = append_byte(a, b' ', line);
@@ -33,7 +35,7 @@ fn append_day(day: u64, line: &mut [u8]) -> usize
 
 // The answer to a date.
 pub fn day_line(answer: Day, line: &mut [u8]) -> usize
-    ensures text { Writes 0 (dayLine (dayPaper answer)) line.old line.new result }
+    ensures text { Writes 0 (day_line (day_paper answer)) line.old line.new result }
     ensures within { Counts result line.new }
 {
     match answer {
@@ -44,14 +46,14 @@ pub fn day_line(answer: Day, line: &mut [u8]) -> usize
 
 // A refusal alone.
 pub fn refusal_line(why: Refusal, line: &mut [u8]) -> usize
-    ensures text { Writes 0 (refusalText (number_of why)) line.old line.new result }
+    ensures text { Writes 0 (refusal_text (number_of why)) line.old line.new result }
     ensures within { Counts result line.new }
 {
     append_refusal(0, why, line)
 }
 
 fn append_date(date: Date, line: &mut [u8]) -> usize
-    ensures { Writes 0 (dateText date.year date.month date.day date.weekday) line.old line.new result }
+    ensures { Writes 0 (date_text date.year date.month date.day date.weekday) line.old line.new result }
 {
     let a = append_signed(0, date.year, line);
     let b = append_byte(a, b' ', line);
@@ -64,7 +66,7 @@ fn append_date(date: Date, line: &mut [u8]) -> usize
 
 // The answer to a day in one calendar.
 pub fn date_line(answer: Dated, line: &mut [u8]) -> usize
-    ensures text { Writes 0 (dateLine (datePaper answer)) line.old line.new result }
+    ensures text { Writes 0 (date_line (date_paper answer)) line.old line.new result }
     ensures within { Counts result line.new }
 {
     match answer {
@@ -75,7 +77,7 @@ pub fn date_line(answer: Dated, line: &mut [u8]) -> usize
 
 // The first day of a year.
 pub fn first_day_line(answer: Day, line: &mut [u8]) -> usize
-    ensures text { Writes 0 (firstDayLine (dayPaper answer)) line.old line.new result }
+    ensures text { Writes 0 (first_day_line (day_paper answer)) line.old line.new result }
     ensures within { Counts result line.new }
 {
     let a = append(0, b"first day ", line);
@@ -97,7 +99,7 @@ fn append_heading(calendar: u64, line: &mut [u8]) -> usize
 }
 
 fn append_columns(at: usize, year: i64, month: u64, day: u64, line: &mut [u8]) -> usize
-    ensures { Writes at (dateColumns year month day) line.old line.new result }
+    ensures { Writes at (date_columns year month day) line.old line.new result }
 {
     let a = append_signed_in(at, 5, year, line);
     let b = append_byte(a, b' ', line);
@@ -108,7 +110,7 @@ fn append_columns(at: usize, year: i64, month: u64, day: u64, line: &mut [u8]) -
 
 // A day in a calendar.
 pub fn calendar_row(calendar: u64, answer: Dated, line: &mut [u8]) -> usize
-    ensures text { Writes 0 (calendarRow calendar (datePaper answer)) line.old line.new result }
+    ensures text { Writes 0 (calendar_row calendar (date_paper answer)) line.old line.new result }
     ensures within { Counts result line.new }
 {
     let a = append_heading(calendar, line);
@@ -119,7 +121,7 @@ pub fn calendar_row(calendar: u64, answer: Dated, line: &mut [u8]) -> usize
 }
 
 fn append_easter(at: usize, year: i64, month: u64, day: u64, number: u64, line: &mut [u8]) -> usize
-    ensures { Writes at (dateColumns year month day ++ bytes " " ++ text number) line.old line.new result }
+    ensures { Writes at (date_columns year month day ++ bytes " " ++ text number) line.old line.new result }
 {
     let a = append_columns(at, year, month, day, line);
     let b = append_byte(a, b' ', line);
@@ -134,7 +136,7 @@ pub fn easter_row(
     number: u64,
     line: &mut [u8],
 ) -> usize
-    ensures text { Writes 0 (easterRow calendar year (easterPaper answer) number) line.old line.new result }
+    ensures text { Writes 0 (easter_row calendar year (easter_paper answer) number) line.old line.new result }
     ensures within { Counts result line.new }
 {
     let a = append_heading(calendar, line);
@@ -146,7 +148,7 @@ pub fn easter_row(
 
 // A calendar's first day and first year.
 pub fn first_row(calendar: u64, day: u64, year: i64, line: &mut [u8]) -> usize
-    ensures text { Writes 0 (firstRow calendar day year) line.old line.new result }
+    ensures text { Writes 0 (first_row calendar day year) line.old line.new result }
     ensures within { Counts result line.new }
 {
     let a = append_heading(calendar, line);
@@ -156,7 +158,7 @@ pub fn first_row(calendar: u64, day: u64, year: i64, line: &mut [u8]) -> usize
 }
 
 fn append_kind(at: usize, answer: Position, line: &mut [u8]) -> usize
-    ensures { Writes at (leftIn 5 (kindName (positionPaper answer).kind)) line.old line.new result }
+    ensures { Writes at (left_in 5 (kind_name (position_paper answer).kind)) line.old line.new result }
 {
     match answer {
         Position::Month(_) => append_left(at, 5, b"month", line),
@@ -168,7 +170,7 @@ fn append_kind(at: usize, answer: Position, line: &mut [u8]) -> usize
 
 // A position of a year.
 pub fn position_row(position: u64, answer: Position, line: &mut [u8]) -> usize
-    ensures text { Writes 0 (positionRow position (positionPaper answer)) line.old line.new result }
+    ensures text { Writes 0 (position_row position (position_paper answer)) line.old line.new result }
     ensures within { Counts result line.new }
 {
     let a = append_number_in(0, 2, position, line);
@@ -180,7 +182,7 @@ pub fn position_row(position: u64, answer: Position, line: &mut [u8]) -> usize
 
 // An answer number and its words.
 pub fn answer_row(number: u64, line: &mut [u8]) -> usize
-    ensures text { Writes 0 (answerRow number) line.old line.new result }
+    ensures text { Writes 0 (answer_row number) line.old line.new result }
     ensures within { Counts result line.new }
 {
     let a = append_number_in(0, 2, number, line);

@@ -12,65 +12,65 @@ use lib.IntN.{ℤ, negsuc}
 use lib.ListN.{get_or, take}
 use lib.Signed.{lt_z}
 use borrow.Author.Tests.{le-ltb, lt-ltb, ltb-true, ltb-false, eqb-true, eqb-false, eq-eqb, ne_eqb}
-use Rattle.counting.specs.Calendar.{total, start, len, dayOf}
-use Rattle.counting.specs.Years.{yearsFrom}
-use Rattle.counting.specs.Answers.{Calendar, years, DayAnswer, DateAnswer, lastDay, lastYear, yearOut, noMonth, noDay, dayOut, dayNumber}
-use Rattle.counting.specs.Answers.{lengthIn, monthZero, abovePositions, noDaysThatYear, noDayAnswer, noDateAnswer, dayFor, dateFor, dated, dateOn, after, ended, last_of}
-use Rattle.counting.specs.Answers.{weekdayOf, FitsDay, wrongWeekday, weekdayTried}
-use Rattle.counting.specs.Positions.{Kind, PositionAnswer, noPosition, isStrip, kindIn, noPositionAnswer, positionFor}
-use Rattle.basics.proofs.Cases.{neither, cond-elim}
+use Rattle.counting.specs.Calendar.{total, start, len, day_of}
+use Rattle.counting.specs.Years.{years_from}
+use Rattle.counting.specs.Answers.{Calendar, years, DayAnswer, DateAnswer, last_day, last_year, year_out, no_month, no_day, day_out, day_number}
+use Rattle.counting.specs.Answers.{length_in, month_zero, above_positions, no_days_that_year, no_day_answer, no_date_answer, day_for, date_for, dated, date_on, after, ended, last_of}
+use Rattle.counting.specs.Answers.{weekday_of, FitsDay, wrong_weekday, weekday_tried}
+use Rattle.counting.specs.Positions.{Kind, PositionAnswer, no_position, is_strip, kind_in, no_position_answer, position_for}
+use Rattle.basics.proofs.Cases.{neither, cond_elim}
 use Rattle.counting.proofs.Counting.{counted}
-use Rattle.counting.proofs.Positions.{days-in}
-use Rattle.counting.proofs.Rounds.{lengths-at, no-month, last-in, last-small, past_end, answered}
-use Rattle.counting.proofs.Signs.{years-small}
-use Rattle.counting.proofs.Totals.{getD-le-total}
+use Rattle.counting.proofs.Positions.{days_in}
+use Rattle.counting.proofs.Rounds.{lengths_at, no_month_lem, last_in, last_small, past_end, answered}
+use Rattle.counting.proofs.Signs.{years_small}
+use Rattle.counting.proofs.Totals.{get_d_le_total}
 use Rattle.counting.proofs.Weekdays.{tried, refused}
 use Rattle.calendar_rules.specs.Calendars.{lookup, calendar, Listed}
-use Rattle.calendar_rules.specs.Answers.{ofListed, dayAnswer, dayAnswerWith, dateAnswer, positionAnswer}
-use Rattle.calendar_rules.proofs.Listed.{listed-sound, endIf, end_is}
+use Rattle.calendar_rules.specs.Answers.{of_listed, day_answer, day_answer_with, date_answer, position_answer}
+use Rattle.calendar_rules.proofs.Listed.{listed_sound, end_if, end_is}
 use Rattle.calendar_rules.proofs.Positions.{absent}
-use Rattle.calendar_rules.proofs.Bounds.{start-within, position-within, year-days, has-days}
-use Rattle.calendar_rules.proofs.Weekdays.{with-weekday}
-use Rattle.calendar_rules.proofs.Claims.{day-asked, date-asked, position-asked}
-use Rattle.months.specs.Parts.{lengthAt, MonthOf, PlaceOf, PlaceTo, packedIn, PackedAt}
-use Rattle.asking.specs.Steps.{OfListed, packedDay, packedTried, noneNumber, packedNone, noneThere, kind_at, stripOr0, Answered, Sought, onDay, in_range, tryEnd, endTried, dayIn, whyNot, Found}
-use Rattle.asking.proofs.Arms.{before-first, never}
+use Rattle.calendar_rules.proofs.Bounds.{start_within, position_within, year_days_lem, has_days}
+use Rattle.calendar_rules.proofs.Weekdays.{with_weekday}
+use Rattle.calendar_rules.proofs.Claims.{day_asked, date_asked, position_asked}
+use Rattle.months.specs.Parts.{length_at, MonthOf, PlaceOf, PlaceTo, packed_in, PackedAt}
+use Rattle.asking.specs.Steps.{OfListed, packed_day, packed_tried, none_number, packed_none, none_there, kind_at, strip_or0, Answered, Sought, on_day, in_range, try_end, end_tried, day_in, why_not, Found}
+use Rattle.asking.proofs.Arms.{before_first, never}
 
 -- ---- in a calendar, a year that is not refused
 
-module _ (K : Calendar) (y : ℤ) (m : ℕ) (o : yearOut K y ≡ false) where
+module _ (K : Calendar) (y : ℤ) (m : ℕ) (o : year_out K y ≡ false) where
   abbrev i : ℕ
-  i = yearsFrom K.firstYear y
+  i = years_from K.first_year y
 
   abbrev b : ℕ
-  b = K.firstDay + start (years K) i + total (take (m - 1) (years K i))
+  b = K.first_day + start (years K) i + total (take (m - 1) (years K i))
 
-  number_is : (d : ℕ) → dayNumber K y m d ≡ b + (d - 1)
-  unfolding dayOf
+  number_is : (d : ℕ) → day_number K y m d ≡ b + (d - 1)
+  unfolding day_of
   number_is d = omega arith
 
   -- no such day number is before the first
-  day-out : (d : ℕ) → dayOut K (dayNumber K y m d) ≡ ltb lastDay (b + (d - 1))
-  day-out d = rw (number_is d, le-ltb (b + (d - 1)) K.firstDay (omega arith)) (or-false (ltb lastDay (b + (d - 1))))
+  day_out_lem : (d : ℕ) → day_out K (day_number K y m d) ≡ ltb last_day (b + (d - 1))
+  day_out_lem d = rw (number_is d, le-ltb (b + (d - 1)) K.first_day (omega arith)) (or_false (ltb last_day (b + (d - 1))))
     where
-      or-false : (t : Bool) → (t || false) ≡ t
-      or-false true = refl
-      or-false false = refl
+      or_false : (t : Bool) → (t || false) ≡ t
+      or_false true = refl
+      or_false false = refl
 
-  lengths-are : K.lengths y ≡ years K i
-  lengths-are = lengths-at K y (neither (lt_z y K.firstYear) (lt_z lastYear y) o).0
+  lengths_are : K.lengths y ≡ years K i
+  lengths_are = lengths_at K y (neither (lt_z y K.first_year) (lt_z last_year y) o).0
 
-  day-for : (d : ℕ) → dayFor K y m d ≡ cond (eqb m 0 || eqb (len (years K i) m) 0) (noDayAnswer 3) (dayIn K b (len (years K i) m) d)
-  unfolding dayFor
-  day-for d = rw (o, no-month K y m, lengths-are, day-out d, number_is d) refl
+  day_for_lem : (d : ℕ) → day_for K y m d ≡ cond (eqb m 0 || eqb (len (years K i) m) 0) (no_day_answer 3) (day_in K b (len (years K i) m) d)
+  unfolding day_for
+  day_for_lem d = rw (o, no_month_lem K y m, lengths_are, day_out_lem d, number_is d) refl
 
 -- ---- a day as one number
 
-pub packed-in : (K : Calendar) → K.end ≡ Option.none → (b l d : ℕ) → packedIn b l d ≡ packedDay (dayIn K b l d)
-packed-in K f b l d = rw f (go (eqb d 0 || ltb l d) (ltb lastDay (b + (d - 1))))
+pub packed_in_lem : (K : Calendar) → K.end ≡ Option.none → (b l d : ℕ) → packed_in b l d ≡ packed_day (day_in K b l d)
+packed_in_lem K f b l d = rw f (go (eqb d 0 || ltb l d) (ltb last_day (b + (d - 1))))
   where
     go : (t u : Bool) → cond t 17179869184 (cond u 21474836480 (b + (d - 1)))
-        ≡ packedDay (cond t (noDayAnswer 4) (cond u (noDayAnswer 5) (record { number = 0; day = b + (d - 1) })))
+        ≡ packed_day (cond t (no_day_answer 4) (cond u (no_day_answer 5) (record { number = 0; day = b + (d - 1) })))
     go true u = refl
     go false true = refl
     go false false = omega arith
@@ -78,58 +78,58 @@ packed-in K f b l d = rw f (go (eqb d 0 || ltb l d) (ltb lastDay (b + (d - 1))))
 -- ---- a position that there is not
 
 -- the number of the refusal
-pub none_within : (c : ℕ) (y : ℤ) → (1 ≤ noneNumber c y) × (noneNumber c y ≤ 3)
-unfolding noneNumber
+pub none_within : (c : ℕ) (y : ℤ) → (1 ≤ none_number c y) × (none_number c y ≤ 3)
+unfolding none_number
 none_within c y = go (calendar c)
   where
-    in-year : (t : Bool) → (1 ≤ cond {A = ℕ} t 2 3) × (cond {A = ℕ} t 2 3 ≤ 3)
-    in-year true = omega arith
-    in-year false = omega arith
+    in_year : (t : Bool) → (1 ≤ cond {A = ℕ} t 2 3) × (cond {A = ℕ} t 2 3 ≤ 3)
+    in_year true = omega arith
+    in_year false = omega arith
 
-    go : (o : Option Calendar) → (1 ≤ ofListed o 1 (λ K. cond (yearOut K y) 2 3)) × (ofListed o 1 (λ K. cond (yearOut K y) 2 3) ≤ 3)
+    go : (o : Option Calendar) → (1 ≤ of_listed o 1 (λ K. cond (year_out K y) 2 3)) × (of_listed o 1 (λ K. cond (year_out K y) 2 3) ≤ 3)
     go Option.none = omega arith
-    go (Option.some K) = in-year (yearOut K y)
+    go (Option.some K) = in_year (year_out K y)
 
 module _ (c : ℕ) (y : ℤ) (m : ℕ) where
   -- no calendar that is listed for the number has it
   abbrev pub Nowhere : Type 0
-  Nowhere = OfListed c (λ K. yearOut K y ≡ false → noMonth K y m ≡ true)
+  Nowhere = OfListed c (λ K. year_out K y ≡ false → no_month K y m ≡ true)
 
-  pub day-none : Nowhere → (d : ℕ) → packedNone c y ≡ packedDay (dayAnswer c y m d)
-  unfolding noneNumber dayAnswer dayFor
-  day-none h d = go (calendar c) refl
+  pub day_none : Nowhere → (d : ℕ) → packed_none c y ≡ packed_day (day_answer c y m d)
+  unfolding none_number day_answer day_for
+  day_none h d = go (calendar c) refl
     where
-      in-year : (K : Calendar) → Listed c K → (t : Bool) → yearOut K y ≡ t → cond t 2 3 * 2 ^ 32 ≡ packedDay (dayFor K y m d)
-      in-year K l true e = rw e refl
-      in-year K l false e = rw (e, h K l e) refl
+      in_year : (K : Calendar) → Listed c K → (t : Bool) → year_out K y ≡ t → cond t 2 3 * 2 ^ 32 ≡ packed_day (day_for K y m d)
+      in_year K l true e = rw e refl
+      in_year K l false e = rw (e, h K l e) refl
 
       go : (o : Option Calendar) → calendar c ≡ o
-          → ofListed o 1 (λ K. cond (yearOut K y) 2 3) * 2 ^ 32 ≡ packedDay (ofListed o (noDayAnswer 1) (λ K. dayFor K y m d))
+          → of_listed o 1 (λ K. cond (year_out K y) 2 3) * 2 ^ 32 ≡ packed_day (of_listed o (no_day_answer 1) (λ K. day_for K y m d))
       go Option.none e = refl
-      go (Option.some K) e = in-year K (record { row = e }) (yearOut K y) refl
+      go (Option.some K) e = in_year K (record { row = e }) (year_out K y) refl
 
   -- since no calendar has the year, or since there is no month 0
-  pub nowhere-year : (lt_z y (negsuc 4711) || lt_z lastYear y) ≡ true → Nowhere
-  nowhere-year e K l f = go (lt_z y (negsuc 4711)) refl (lt_z lastYear y) refl e
+  pub nowhere_year : (lt_z y (negsuc 4711) || lt_z last_year y) ≡ true → Nowhere
+  nowhere_year e K l f = go (lt_z y (negsuc 4711)) refl (lt_z last_year y) refl e
     where
-      o : (lt_z y K.firstYear ≡ false) × (lt_z lastYear y ≡ false)
-      o = neither (lt_z y K.firstYear) (lt_z lastYear y) f
+      o : (lt_z y K.first_year ≡ false) × (lt_z last_year y ≡ false)
+      o = neither (lt_z y K.first_year) (lt_z last_year y) f
 
-      go : (a : Bool) → lt_z y (negsuc 4711) ≡ a → (b : Bool) → lt_z lastYear y ≡ b → (a || b) ≡ true → noMonth K y m ≡ true
-      go true ea b eb g = absurd (true≢false (sym (before-first c y K l ea) ∙ o.0))
+      go : (a : Bool) → lt_z y (negsuc 4711) ≡ a → (b : Bool) → lt_z last_year y ≡ b → (a || b) ≡ true → no_month K y m ≡ true
+      go true ea b eb g = absurd (true≢false (sym (before_first c y K l ea) ∙ o.0))
       go false ea true eb g = absurd (true≢false (sym eb ∙ o.1))
       go false ea false eb g = absurd (true≢false (sym g))
 
-  pub nowhere-0 : m ≡ 0 → Nowhere
-  nowhere-0 e K l f = rw (no-month K y m, eq-eqb m 0 e) refl
+  pub nowhere_0 : m ≡ 0 → Nowhere
+  nowhere_0 e K l f = rw (no_month_lem K y m, eq-eqb m 0 e) refl
 
   -- since the year has no such position
-  pub nowhere-zero : OfListed c (λ K. yearOut K y ≡ false → lengthAt K (yearsFrom K.firstYear y) (m - 1) ≡ 0) → Nowhere
-  nowhere-zero h K l f = rw (no-month K y m, lengths-are K y m f, h K l f) (or-true (eqb m 0))
+  pub nowhere_zero : OfListed c (λ K. year_out K y ≡ false → length_at K (years_from K.first_year y) (m - 1) ≡ 0) → Nowhere
+  nowhere_zero h K l f = rw (no_month_lem K y m, lengths_are K y m f, h K l f) (or_true (eqb m 0))
     where
-      or-true : (t : Bool) → (t || true) ≡ true
-      or-true true = refl
-      or-true false = refl
+      or_true : (t : Bool) → (t || true) ≡ true
+      or_true true = refl
+      or_true false = refl
 
 -- ---- a position that there is, and a day in it
 
@@ -137,67 +137,67 @@ module _ (c : ℕ) (y : ℤ) (m : ℕ) where
 pub record YearIn (c : ℕ) (y : ℤ) : Type 0 where
   pub calendar : Calendar
   pub listed : Listed c calendar
-  pub inside : yearOut calendar y ≡ false
+  pub inside : year_out calendar y ≡ false
 
 -- the years from its first
-abbrev pub yearsOf : {c : ℕ} {y : ℤ} → YearIn c y → ℕ
-yearsOf {y = y} x = yearsFrom x.calendar.firstYear y
+abbrev pub years_of : {c : ℕ} {y : ℤ} → YearIn c y → ℕ
+years_of {y = y} x = years_from x.calendar.first_year y
 
-pub year-found : {c : ℕ} {y : ℤ} {P : Calendar → ℕ → Type 0} {days : ℕ} → Sought c y P days → (days ≡ 0 → ⊥) → (x : YearIn c y) × P x.calendar (yearsOf x)
-year-found {c} {y} {P} {days} s n = go (calendar c) refl
+pub year_found : {c : ℕ} {y : ℤ} {P : Calendar → ℕ → Type 0} {days : ℕ} → Sought c y P days → (days ≡ 0 → ⊥) → (x : YearIn c y) × P x.calendar (years_of x)
+year_found {c} {y} {P} {days} s n = go (calendar c) refl
   where
-    in-year : (K : Calendar) → Listed c K → (t : Bool) → yearOut K y ≡ t → (x : YearIn c y) × P x.calendar (yearsOf x)
-    in-year K l true e = absurd (n (s.out K l e))
-    in-year K l false e = (record { calendar = K; listed = l; inside = e }, s.there K l e)
+    in_year : (K : Calendar) → Listed c K → (t : Bool) → year_out K y ≡ t → (x : YearIn c y) × P x.calendar (years_of x)
+    in_year K l true e = absurd (n (s.out K l e))
+    in_year K l false e = (record { calendar = K; listed = l; inside = e }, s.there K l e)
 
-    go : (o : Option Calendar) → calendar c ≡ o → (x : YearIn c y) × P x.calendar (yearsOf x)
+    go : (o : Option Calendar) → calendar c ≡ o → (x : YearIn c y) × P x.calendar (years_of x)
     go Option.none e = absurd (n (s.off e))
-    go (Option.some K) e = in-year K (record { row = e }) (yearOut K y) refl
+    go (Option.some K) e = in_year K (record { row = e }) (year_out K y) refl
 
 module _ {c : ℕ} {y : ℤ} (x : YearIn c y) (m : ℕ) where
   -- the position's length, and the day that it begins on
-  abbrev pub daysOf : ℕ
-  daysOf = lengthAt x.calendar (yearsOf x) (m - 1)
+  abbrev pub days_of : ℕ
+  days_of = length_at x.calendar (years_of x) (m - 1)
 
-  abbrev pub beginOf : ℕ
-  beginOf = x.calendar.firstDay + start (years x.calendar) (yearsOf x) + total (take (m - 1) (years x.calendar (yearsOf x)))
+  abbrev pub begin_of : ℕ
+  begin_of = x.calendar.first_day + start (years x.calendar) (years_of x) + total (take (m - 1) (years x.calendar (years_of x)))
 
-  pub day-there : (m ≡ 0 → ⊥) → (daysOf ≡ 0 → ⊥) → (d : ℕ) → dayIn x.calendar beginOf daysOf d ≡ dayAnswer c y m d
-  day-there n z d = rw (day-asked x.listed y m d, day-for x.calendar y m x.inside d, ne_eqb m 0 n, ne_eqb daysOf 0 z) refl
+  pub day_there : (m ≡ 0 → ⊥) → (days_of ≡ 0 → ⊥) → (d : ℕ) → day_in x.calendar begin_of days_of d ≡ day_answer c y m d
+  day_there n z d = rw (day_asked x.listed y m d, day_for_lem x.calendar y m x.inside d, ne_eqb m 0 n, ne_eqb days_of 0 z) refl
 
-  pub there-small : (beginOf ≤ 20000000) × (daysOf ≤ 385)
-  there-small =
-      let s = listed-sound x.listed in
+  pub there_small : (begin_of ≤ 20000000) × (days_of ≤ 385)
+  there_small =
+      let s = listed_sound x.listed in
       let h = s.bounded in
-      let r = yearsOf x in
-      let o = neither (lt_z y x.calendar.firstYear) (lt_z lastYear y) x.inside in
-      let k = years-small x.calendar.firstYear y 4711 s.first-year o.0 o.1 in (
-        omega (arith, s.first-day, start-within h r, position-within h r (m - 1)),
-        omega (arith, getD-le-total (years x.calendar r) (m - 1), year-days h r),
+      let r = years_of x in
+      let o = neither (lt_z y x.calendar.first_year) (lt_z last_year y) x.inside in
+      let k = years_small x.calendar.first_year y 4711 s.first_year_lem o.0 o.1 in (
+        omega (arith, s.first_day_lem, start_within h r, position_within h r (m - 1)),
+        omega (arith, get_d_le_total (years x.calendar r) (m - 1), year_days_lem h r),
       )
 
   -- as code has them, from the position that was found
-  module _ {start days : ℕ} (f : MonthOf x.calendar (yearsOf x) (m - 1) start days) (n : m ≡ 0 → ⊥) (z : days ≡ 0 → ⊥) where
-    begins-there : start ≡ beginOf
-    begins-there = f.begins (omega arith)
+  module _ {start days : ℕ} (f : MonthOf x.calendar (years_of x) (m - 1) start days) (n : m ≡ 0 → ⊥) (z : days ≡ 0 → ⊥) where
+    begins_there : start ≡ begin_of
+    begins_there = f.begins (omega arith)
 
-    pub found-small : (start ≤ 20000000) × (days ≤ 385)
-    found-small = let s = there-small in (omega (arith, s.0, begins-there), omega (arith, s.1, f.length-is))
+    pub found_small : (start ≤ 20000000) × (days ≤ 385)
+    found_small = let s = there_small in (omega (arith, s.0, begins_there), omega (arith, s.1, f.length_is))
 
-    pub found-day : (d : ℕ) → packedDay (dayIn x.calendar start days d) ≡ packedDay (dayAnswer c y m d)
-    found-day d = ap packedDay ((λ i. dayIn x.calendar (begins-there i) (f.length-is i) d) ∙ day-there n (λ e. z (f.length-is ∙ e)) d)
+    pub found_day : (d : ℕ) → packed_day (day_in x.calendar start days d) ≡ packed_day (day_answer c y m d)
+    found_day d = ap packed_day ((λ i. day_in x.calendar (begins_there i) (f.length_is i) d) ∙ day_there n (λ e. z (f.length_is ∙ e)) d)
 
   -- and of a position that the year may have or not, where the calendar did not end
-  pub packed-there : x.calendar.end ≡ Option.none → (d r : ℕ) → (m ≡ 0 → ⊥) → PackedAt x.calendar (yearsOf x) (m - 1) d r
-      → r ≡ packedDay (dayAnswer c y m d)
-  packed-there f d r n p = go (dec_lt 0 daysOf)
+  pub packed_there : x.calendar.end ≡ Option.none → (d r : ℕ) → (m ≡ 0 → ⊥) → PackedAt x.calendar (years_of x) (m - 1) d r
+      → r ≡ packed_day (day_answer c y m d)
+  packed_there f d r n p = go (dec_lt 0 days_of)
     where
-      go : Dec (0 < daysOf) → r ≡ packedDay (dayAnswer c y m d)
-      go (yes l) = p.there l ∙ packed-in x.calendar f _ _ d ∙ ap packedDay (day-there n (λ z. omega arith) d)
+      go : Dec (0 < days_of) → r ≡ packed_day (day_answer c y m d)
+      go (yes l) = p.there l ∙ packed_in_lem x.calendar f _ _ d ∙ ap packed_day (day_there n (λ z. omega arith) d)
       go (no l) =
-          let e : dayAnswer c y m d ≡ noDayAnswer 3 =
-          rw (day-asked x.listed y m d, day-for x.calendar y m x.inside d, ne_eqb m 0 n, eq-eqb daysOf 0 (omega arith)) refl in
-          p.none (omega arith) ∙ ap packedDay (sym e)
+          let e : day_answer c y m d ≡ no_day_answer 3 =
+          rw (day_asked x.listed y m d, day_for_lem x.calendar y m x.inside d, ne_eqb m 0 n, eq-eqb days_of 0 (omega arith)) refl in
+          p.none (omega arith) ∙ ap packed_day (sym e)
 
 -- ---- 17, tried on a day
 
@@ -206,30 +206,30 @@ and-false true = refl
 and-false false = refl
 
 -- of a day it makes what is answered
-pub end-tried : {c : ℕ} {K : Calendar} → Listed c K → (n : ℕ) → n < 2 ^ 32 → endTried c (in_range n) ≡ packedDay (onDay K n)
-unfolding endTried tryEnd
-end-tried {c} {K} l n s = rw (l.row, end_is l) (go (eqb c 7) (ltb lastDay n) refl (ltb 2380687 n) refl)
+pub end_tried_lem : {c : ℕ} {K : Calendar} → Listed c K → (n : ℕ) → n < 2 ^ 32 → end_tried c (in_range n) ≡ packed_day (on_day K n)
+unfolding end_tried try_end
+end_tried_lem {c} {K} l n s = rw (l.row, end_is l) (go (eqb c 7) (ltb last_day n) refl (ltb 2380687 n) refl)
   where
-    go : (t u : Bool) → ltb lastDay n ≡ u → (v : Bool) → ltb 2380687 n ≡ v
-        → tryEnd (endIf t) (cond u (5 * 2 ^ 32) n)
-        ≡ packedDay (cond (after (endIf t) n) (noDayAnswer 17) (cond u (noDayAnswer 5) (record { number = 0; day = n })))
+    go : (t u : Bool) → ltb last_day n ≡ u → (v : Bool) → ltb 2380687 n ≡ v
+        → try_end (end_if t) (cond u (5 * 2 ^ 32) n)
+        ≡ packed_day (cond (after (end_if t) n) (no_day_answer 17) (cond u (no_day_answer 5) (record { number = 0; day = n })))
     go false true e v f = refl
     go false false e v f = omega arith
     go true true e true f = rw f refl
-    go true true e false f = absurd (omega (arith, ltb-true lastDay n e, ltb-false 2380687 n f))
+    go true true e false f = absurd (omega (arith, ltb-true last_day n e, ltb-false 2380687 n f))
     go true false e true f = rw (f, lt-ltb n (2 ^ 32) s) refl
     go true false e false f = rw f (omega arith)
 
 -- it is tried of calendar 7, and of no other
-pub end-of-7 : {c : ℕ} (r : ℕ) → c ≡ 7 → tryEnd (Option.some 2380687) r ≡ endTried c r
-unfolding endTried calendar lookup
-end-of-7 {c} r e = rw e refl
+pub end_of_7 : {c : ℕ} (r : ℕ) → c ≡ 7 → try_end (Option.some 2380687) r ≡ end_tried c r
+unfolding end_tried calendar lookup
+end_of_7 {c} r e = rw e refl
 
-pub end-of-other : {c : ℕ} (r : ℕ) → (c ≡ 7 → ⊥) → r ≡ endTried c r
-unfolding endTried tryEnd
-end-of-other {c} r n = go (calendar c) refl
+pub end_of_other : {c : ℕ} (r : ℕ) → (c ≡ 7 → ⊥) → r ≡ end_tried c r
+unfolding end_tried try_end
+end_of_other {c} r n = go (calendar c) refl
   where
-    go : (o : Option Calendar) → calendar c ≡ o → r ≡ ofListed o r (λ K. tryEnd K.end r)
+    go : (o : Option Calendar) → calendar c ≡ o → r ≡ of_listed o r (λ K. try_end K.end r)
     go Option.none e = refl
     go (Option.some K) e =
         let l : Listed c K = record { row = e } in
@@ -238,323 +238,323 @@ end-of-other {c} r n = go (calendar c) refl
 -- ---- as code has them, from what was sought
 
 module _ {c : ℕ} {y : ℤ} (m : ℕ) {start days : ℕ} (s : Sought c y (λ K i. MonthOf K i (m - 1) start days) days) (h : m ≡ 0 → ⊥) (d : ℕ) where
-  there : (days ≡ 0 → ⊥) → (x : YearIn c y) × (start ≤ 20000000) × (days ≤ 385) × (packedDay (dayIn x.calendar start days d) ≡ packedDay (dayAnswer c y m d))
+  there : (days ≡ 0 → ⊥) → (x : YearIn c y) × (start ≤ 20000000) × (days ≤ 385) × (packed_day (day_in x.calendar start days d) ≡ packed_day (day_answer c y m d))
   there z =
-      let x = year-found s z in
-      let b = found-small x.0 m x.1 h z in
-      (x.0, b.0, b.1, found-day x.0 m x.1 h z d)
+      let x = year_found s z in
+      let b = found_small x.0 m x.1 h z in
+      (x.0, b.0, b.1, found_day x.0 m x.1 h z d)
 
   -- the position is not there, or has no such day
-  pub not_found : (eqb d 0 || ltb days d) ≡ true → cond (eqb days 0) (packedNone c y) (4 * 2 ^ 32) ≡ packedDay (dayAnswer c y m d)
+  pub not_found : (eqb d 0 || ltb days d) ≡ true → cond (eqb days 0) (packed_none c y) (4 * 2 ^ 32) ≡ packed_day (day_answer c y m d)
   not_found t =
-      cond-elim (λ (n : ℕ). n ≡ packedDay (dayAnswer c y m d)) (eqb days 0) (packedNone c y) (4 * 2 ^ 32)
-      (λ e. day-none c y m (nowhere-zero c y m (λ K l f. sym (s.there K l f).length-is ∙ eqb-true days 0 e)) d)
+      cond_elim (λ (n : ℕ). n ≡ packed_day (day_answer c y m d)) (eqb days 0) (packed_none c y) (4 * 2 ^ 32)
+      (λ e. day_none c y m (nowhere_zero c y m (λ K l f. sym (s.there K l f).length_is ∙ eqb-true days 0 e)) d)
       (λ e. let x = there (eqb-false days 0 e) in refused x.0.calendar t ∙ x.3)
     where
-      refused : (K : Calendar) → (eqb d 0 || ltb days d) ≡ true → 4 * 2 ^ 32 ≡ packedDay (dayIn K start days d)
+      refused : (K : Calendar) → (eqb d 0 || ltb days d) ≡ true → 4 * 2 ^ 32 ≡ packed_day (day_in K start days d)
       refused K t = rw t refl
 
   -- or has it
   pub found : (eqb d 0 || ltb days d) ≡ false
-      → (1 ≤ d) × (d ≤ 385) × (start ≤ 20000000) × (endTried c (in_range (start + (d - 1))) ≡ packedDay (dayAnswer c y m d))
+      → (1 ≤ d) × (d ≤ 385) × (start ≤ 20000000) × (end_tried c (in_range (start + (d - 1))) ≡ packed_day (day_answer c y m d))
   found t =
       let o = neither (eqb d 0) (ltb days d) t in
       let l = ltb-false days d o.1 in
       let k : 1 ≤ d = omega (arith, eqb-false d 0 o.0) in
       let x = there (λ z. omega arith) in
       let e : d ≤ 385 = omega (arith, l, x.2) in
-      (k, e, x.1, end-tried x.0.listed (start + (d - 1)) (omega (arith, x.1)) ∙ given x.0.calendar t ∙ x.3)
+      (k, e, x.1, end_tried_lem x.0.listed (start + (d - 1)) (omega (arith, x.1)) ∙ given x.0.calendar t ∙ x.3)
     where
-      given : (K : Calendar) → (eqb d 0 || ltb days d) ≡ false → packedDay (onDay K (start + (d - 1))) ≡ packedDay (dayIn K start days d)
+      given : (K : Calendar) → (eqb d 0 || ltb days d) ≡ false → packed_day (on_day K (start + (d - 1))) ≡ packed_day (day_in K start days d)
       given K t = rw t refl
 
 -- ---- a position: its days first
 
 -- a position of a year without days
-without-days : (K : Calendar) (y : ℤ) (m : ℕ) → yearOut K y ≡ false → (positionFor K y m).days ≡ 0 → noMonth K y m ≡ true
-unfolding positionFor
-without-days K y m o z = go (noPosition K y m) (rw o at z)
+without_days : (K : Calendar) (y : ℤ) (m : ℕ) → year_out K y ≡ false → (position_for K y m).days ≡ 0 → no_month K y m ≡ true
+unfolding position_for
+without_days K y m o z = go (no_position K y m) (rw o at z)
   where
-    go : (t : Bool) → (cond t (noPositionAnswer 3) (record { number = 0; kind = kindIn K y m; days = lengthIn K y m })).days ≡ 0 → (t || noDaysThatYear K y m) ≡ true
+    go : (t : Bool) → (cond t (no_position_answer 3) (record { number = 0; kind = kind_in K y m; days = length_in K y m })).days ≡ 0 → (t || no_days_that_year K y m) ≡ true
     go true z = refl
-    go false z = eq-eqb (lengthIn K y m) 0 z
+    go false z = eq-eqb (length_in K y m) 0 z
 
 -- whether a position from 1 on is the strip
-is-strip : (o : Option ℕ) (m : ℕ) → ¬ (m ≡ 0) → eqb m (stripOr0 o) ≡ isStrip o m
-is-strip Option.none m z = ne_eqb m 0 z
-is-strip (Option.some p) m z = refl
+is_strip_lem : (o : Option ℕ) (m : ℕ) → ¬ (m ≡ 0) → eqb m (strip_or0 o) ≡ is_strip o m
+is_strip_lem Option.none m z = ne_eqb m 0 z
+is_strip_lem (Option.some p) m z = refl
 
 module _ (c : ℕ) (y : ℤ) (m : ℕ) where
   -- where no calendar that is listed has it there are none
-  pub no-days : Nowhere c y m → 0 ≡ (positionAnswer c y m).days
-  unfolding positionAnswer positionFor
-  no-days h = go (calendar c) refl
+  pub no_days : Nowhere c y m → 0 ≡ (position_answer c y m).days
+  unfolding position_answer position_for
+  no_days h = go (calendar c) refl
     where
-      in-calendar : (K : Calendar) (t : Bool) → (t ≡ false → noMonth K y m ≡ true) → (u : Bool) → noPosition K y m ≡ u
-          → 0 ≡ (cond t (noPositionAnswer 2) (cond u (noPositionAnswer 3) (record { number = 0; kind = kindIn K y m; days = lengthIn K y m }))).days
-      in-calendar K true h u e = refl
-      in-calendar K false h true e = refl
-      in-calendar K false h false e = sym (eqb-true (lengthIn K y m) 0 (sym (ap (λ (t : Bool). t || noDaysThatYear K y m) e) ∙ h refl))
+      in_calendar : (K : Calendar) (t : Bool) → (t ≡ false → no_month K y m ≡ true) → (u : Bool) → no_position K y m ≡ u
+          → 0 ≡ (cond t (no_position_answer 2) (cond u (no_position_answer 3) (record { number = 0; kind = kind_in K y m; days = length_in K y m }))).days
+      in_calendar K true h u e = refl
+      in_calendar K false h true e = refl
+      in_calendar K false h false e = sym (eqb-true (length_in K y m) 0 (sym (ap (λ (t : Bool). t || no_days_that_year K y m) e) ∙ h refl))
 
-      go : (o : Option Calendar) → calendar c ≡ o → 0 ≡ (ofListed o (noPositionAnswer 1) (λ K. positionFor K y m)).days
+      go : (o : Option Calendar) → calendar c ≡ o → 0 ≡ (of_listed o (no_position_answer 1) (λ K. position_for K y m)).days
       go Option.none e = refl
-      go (Option.some K) e = in-calendar K (yearOut K y) (h K (record { row = e })) (noPosition K y m) refl
+      go (Option.some K) e = in_calendar K (year_out K y) (h K (record { row = e })) (no_position K y m) refl
 
-  pub days-found : {n : ℕ} → (m ≡ 0 → ⊥) → Sought c y (λ K i. n ≡ lengthAt K i (m - 1)) n → n ≡ (positionAnswer c y m).days
-  days-found {n} h s = go (dec_lt 0 n)
+  pub days_found : {n : ℕ} → (m ≡ 0 → ⊥) → Sought c y (λ K i. n ≡ length_at K i (m - 1)) n → n ≡ (position_answer c y m).days
+  days_found {n} h s = go (dec_lt 0 n)
     where
-      go : Dec (0 < n) → n ≡ (positionAnswer c y m).days
+      go : Dec (0 < n) → n ≡ (position_answer c y m).days
       go (yes l) =
-          let x = year-found s (λ e. omega arith) in
+          let x = year_found s (λ e. omega arith) in
           let K = x.0.calendar in
           x.1
-          ∙ ap (λ (ls : List ℕ). get_or ls (m - 1) 0) (sym (lengths-are K y m x.0.inside))
-          ∙ sym (days-in K y m x.0.inside (omega arith))
-          ∙ ap (λ (a : PositionAnswer). a.days) (sym (position-asked x.0.listed y m))
-      go (no l) = let e : n ≡ 0 = omega arith in e ∙ no-days (nowhere-zero c y m (λ K k f. sym (s.there K k f) ∙ e))
+          ∙ ap (λ (ls : List ℕ). get_or ls (m - 1) 0) (sym (lengths_are K y m x.0.inside))
+          ∙ sym (days_in K y m x.0.inside (omega arith))
+          ∙ ap (λ (a : PositionAnswer). a.days) (sym (position_asked x.0.listed y m))
+      go (no l) = let e : n ≡ 0 = omega arith in e ∙ no_days (nowhere_zero c y m (λ K k f. sym (s.there K k f) ∙ e))
 
   -- where there are none, it is none this year or refused,
-  pub days-none : (positionAnswer c y m).days ≡ 0 → noneThere c m (noneNumber c y) ≡ positionAnswer c y m
-  unfolding positionAnswer noneNumber positionFor
-  days-none z = go (calendar c) refl z
+  pub days_none : (position_answer c y m).days ≡ 0 → none_there c m (none_number c y) ≡ position_answer c y m
+  unfolding position_answer none_number position_for
+  days_none z = go (calendar c) refl z
     where
-      in-year : (K : Calendar) → Listed c K → (t : Bool) → yearOut K y ≡ t → (positionFor K y m).days ≡ 0 → noneThere c m (cond t 2 3) ≡ positionFor K y m
-      in-year K l true e z = rw e refl
-      in-year K l false e z = sym (absent l y e m (without-days K y m e z))
+      in_year : (K : Calendar) → Listed c K → (t : Bool) → year_out K y ≡ t → (position_for K y m).days ≡ 0 → none_there c m (cond t 2 3) ≡ position_for K y m
+      in_year K l true e z = rw e refl
+      in_year K l false e z = sym (absent l y e m (without_days K y m e z))
 
-      go : (o : Option Calendar) → calendar c ≡ o → (ofListed o (noPositionAnswer 1) (λ K. positionFor K y m)).days ≡ 0
-          → noneThere c m (ofListed o 1 (λ K. cond (yearOut K y) 2 3)) ≡ ofListed o (noPositionAnswer 1) (λ K. positionFor K y m)
+      go : (o : Option Calendar) → calendar c ≡ o → (of_listed o (no_position_answer 1) (λ K. position_for K y m)).days ≡ 0
+          → none_there c m (of_listed o 1 (λ K. cond (year_out K y) 2 3)) ≡ of_listed o (no_position_answer 1) (λ K. position_for K y m)
       go Option.none e z = refl
-      go (Option.some K) e z = in-year K (record { row = e }) (yearOut K y) refl z
+      go (Option.some K) e z = in_year K (record { row = e }) (year_out K y) refl z
 
   -- and where there are some, a strip or a month, as the calendar's strip says
-  days-there : (n p : ℕ) → n ≡ (positionAnswer c y m).days → (n ≡ 0 → ⊥) → OfListed c (λ K. p ≡ stripOr0 K.strip)
-      → ◌≡◌ {A = PositionAnswer} (record { number = 0; kind = kind_at p m; days = n }) (positionAnswer c y m)
-  unfolding positionAnswer positionFor
-  days-there n p e h f = go (calendar c) refl e
+  days_there : (n p : ℕ) → n ≡ (position_answer c y m).days → (n ≡ 0 → ⊥) → OfListed c (λ K. p ≡ strip_or0 K.strip)
+      → ◌≡◌ {A = PositionAnswer} (record { number = 0; kind = kind_at p m; days = n }) (position_answer c y m)
+  unfolding position_answer position_for
+  days_there n p e h f = go (calendar c) refl e
     where
-      in-calendar : (K : Calendar) → Listed c K → (t u : Bool) → noPosition K y m ≡ u → (v : Bool) → noDaysThatYear K y m ≡ v
+      in_calendar : (K : Calendar) → Listed c K → (t u : Bool) → no_position K y m ≡ u → (v : Bool) → no_days_that_year K y m ≡ v
           → let x : PositionAnswer =
-          cond t (noPositionAnswer 2)
-          (cond u (noPositionAnswer 3)
-          (record { number = 0; kind = cond v Kind.none (cond (isStrip K.strip m) Kind.strip Kind.month); days = lengthIn K y m })) in
+          cond t (no_position_answer 2)
+          (cond u (no_position_answer 3)
+          (record { number = 0; kind = cond v Kind.none (cond (is_strip K.strip m) Kind.strip Kind.month); days = length_in K y m })) in
           n ≡ x.days → ◌≡◌ {A = PositionAnswer} (record { number = 0; kind = kind_at p m; days = n }) x
-      in-calendar K l true u q v d e = absurd (h e)
-      in-calendar K l false true q v d e = absurd (h e)
-      in-calendar K l false false q true d e = absurd (h (e ∙ eqb-true (lengthIn K y m) 0 d))
-      in-calendar K l false false q false d e =
-          let z = eqb-false m 0 (neither (monthZero m) (abovePositions K y m) q).0 in
-          let s : eqb m p ≡ isStrip K.strip m = ap (eqb m) (f K l) ∙ is-strip K.strip m z in
+      in_calendar K l true u q v d e = absurd (h e)
+      in_calendar K l false true q v d e = absurd (h e)
+      in_calendar K l false false q true d e = absurd (h (e ∙ eqb-true (length_in K y m) 0 d))
+      in_calendar K l false false q false d e =
+          let z = eqb-false m 0 (neither (month_zero m) (above_positions K y m) q).0 in
+          let s : eqb m p ≡ is_strip K.strip m = ap (eqb m) (f K l) ∙ is_strip_lem K.strip m z in
           λ j. record { number = 0; kind = cond (s j) Kind.strip Kind.month; days = e j }
 
-      go : (o : Option Calendar) → calendar c ≡ o → n ≡ (ofListed o (noPositionAnswer 1) (λ K. positionFor K y m)).days
-          → ◌≡◌ {A = PositionAnswer} (record { number = 0; kind = kind_at p m; days = n }) (ofListed o (noPositionAnswer 1) (λ K. positionFor K y m))
+      go : (o : Option Calendar) → calendar c ≡ o → n ≡ (of_listed o (no_position_answer 1) (λ K. position_for K y m)).days
+          → ◌≡◌ {A = PositionAnswer} (record { number = 0; kind = kind_at p m; days = n }) (of_listed o (no_position_answer 1) (λ K. position_for K y m))
       go Option.none g e = absurd (h e)
-      go (Option.some K) g e = in-calendar K (record { row = g }) (yearOut K y) (noPosition K y m) refl (noDaysThatYear K y m) refl e
+      go (Option.some K) g e = in_calendar K (record { row = g }) (year_out K y) (no_position K y m) refl (no_days_that_year K y m) refl e
 
-  module _ (n p : ℕ) (e : n ≡ (positionAnswer c y m).days) (h : n ≡ 0 → ⊥) (f : OfListed c (λ K. p ≡ stripOr0 K.strip)) where
-    pub strip-there : m ≡ p → ◌≡◌ {A = PositionAnswer} (record { number = 0; kind = Kind.strip; days = n }) (positionAnswer c y m)
-    strip-there g = rw (eq-eqb m p g) at (days-there n p e h f)
+  module _ (n p : ℕ) (e : n ≡ (position_answer c y m).days) (h : n ≡ 0 → ⊥) (f : OfListed c (λ K. p ≡ strip_or0 K.strip)) where
+    pub strip_there : m ≡ p → ◌≡◌ {A = PositionAnswer} (record { number = 0; kind = Kind.strip; days = n }) (position_answer c y m)
+    strip_there g = rw (eq-eqb m p g) at (days_there n p e h f)
 
-    pub month-there : ¬ (m ≡ p) → ◌≡◌ {A = PositionAnswer} (record { number = 0; kind = Kind.month; days = n }) (positionAnswer c y m)
-    month-there g = rw (ne_eqb m p g) at (days-there n p e h f)
+    pub month_there : ¬ (m ≡ p) → ◌≡◌ {A = PositionAnswer} (record { number = 0; kind = Kind.month; days = n }) (position_answer c y m)
+    month_there g = rw (ne_eqb m p g) at (days_there n p e h f)
 
 -- which of those without days are none this year
 module _ (c m : ℕ) where
-  pub refused_as : (y : ℤ) {k : ℕ} → ¬ (k ≡ 3) → k ≡ noneNumber c y → noPositionAnswer k ≡ noneThere c m (noneNumber c y)
-  refused_as y {k} n e = let f : noPositionAnswer k ≡ noneThere c m k = rw (ne_eqb k 3 n) refl in f ∙ ap (noneThere c m) e
+  pub refused_as : (y : ℤ) {k : ℕ} → ¬ (k ≡ 3) → k ≡ none_number c y → no_position_answer k ≡ none_there c m (none_number c y)
+  refused_as y {k} n e = let f : no_position_answer k ≡ none_there c m k = rw (ne_eqb k 3 n) refl in f ∙ ap (none_there c m) e
 
-  pub none_then : c ≡ 18 → m ≡ 7 → ◌≡◌ {A = PositionAnswer} (record { number = 0; kind = Kind.none; days = 0 }) (noneThere c m 3)
+  pub none_then : c ≡ 18 → m ≡ 7 → ◌≡◌ {A = PositionAnswer} (record { number = 0; kind = Kind.none; days = 0 }) (none_there c m 3)
   none_then e f = rw (e, f) refl
 
-  pub not-hebrew : ¬ (c ≡ 18) → noPositionAnswer 3 ≡ noneThere c m 3
-  not-hebrew n = rw (ne_eqb c 18 n) refl
+  pub not_hebrew : ¬ (c ≡ 18) → no_position_answer 3 ≡ none_there c m 3
+  not_hebrew n = rw (ne_eqb c 18 n) refl
 
-  pub not-seventh : ¬ (m ≡ 7) → noPositionAnswer 3 ≡ noneThere c m 3
-  not-seventh n = rw (ne_eqb m 7 n, and-false (eqb c 18)) refl
+  pub not_seventh : ¬ (m ≡ 7) → no_position_answer 3 ≡ none_there c m 3
+  not_seventh n = rw (ne_eqb m 7 n, and-false (eqb c 18)) refl
 
 -- ---- and back
 
 -- r is x packed: what its number in the high place says of x
 abbrev Unpacks : ℕ → DayAnswer → Type 0
-Unpacks r x = r ≡ packedDay x
+Unpacks r x = r ≡ packed_day x
     → (5 < r / 4294967296 → ¬ (r / 4294967296 ≡ 13) → r / 4294967296 ≡ 17)
     × (r / 4294967296 ≡ 0 → ◌≡◌ {A = DayAnswer} (record { number = 0; day = r }) x)
-    × ((k : ℕ) → r / 4294967296 ≡ suc k → noDayAnswer (suc k) ≡ x)
+    × ((k : ℕ) → r / 4294967296 ≡ suc k → no_day_answer (suc k) ≡ x)
 
-unpacks-refused : (r j : ℕ) → (5 < suc j → ¬ (suc j ≡ 13) → suc j ≡ 17) → Unpacks r (noDayAnswer (suc j))
-unpacks-refused r j h e =
+unpacks_refused : (r j : ℕ) → (5 < suc j → ¬ (suc j ≡ 13) → suc j ≡ 17) → Unpacks r (no_day_answer (suc j))
+unpacks_refused r j h e =
     let q : r / 4294967296 ≡ suc j = omega arith in
-    ((λ g n. q ∙ h (omega arith) (λ z. n (q ∙ z))), (λ z. absurd (omega arith)), λ k z. ap noDayAnswer (omega arith))
+    ((λ g n. q ∙ h (omega arith) (λ z. n (q ∙ z))), (λ z. absurd (omega arith)), λ k z. ap no_day_answer (omega arith))
 
-unpacks-day : (r n : ℕ) → n ≤ lastDay → Unpacks r (record { number = 0; day = n })
-unpacks-day r n h e =
+unpacks_day : (r n : ℕ) → n ≤ last_day → Unpacks r (record { number = 0; day = n })
+unpacks_day r n h e =
     let q : r ≡ n = omega arith in
     ((λ g n. absurd (omega arith)), (λ z. ap (λ (k : ℕ). record { number = 0; day = k }) q), λ k z. absurd (omega arith))
 
 -- of a date without a weekday,
-unpacks-rest : (c : ℕ) (y : ℤ) (m d r : ℕ) → Unpacks r (dayAnswer c y m d)
-unfolding dayAnswer dayFor
-unpacks-rest c y m d r = go (calendar c)
+unpacks_rest : (c : ℕ) (y : ℤ) (m d r : ℕ) → Unpacks r (day_answer c y m d)
+unfolding day_answer day_for
+unpacks_rest c y m d r = go (calendar c)
   where
-    go : (o : Option Calendar) → Unpacks r (ofListed o (noDayAnswer 1) (λ K. dayFor K y m d))
-    go Option.none = unpacks-refused r 0 (λ g n. omega arith)
+    go : (o : Option Calendar) → Unpacks r (of_listed o (no_day_answer 1) (λ K. day_for K y m d))
+    go Option.none = unpacks_refused r 0 (λ g n. omega arith)
     go (Option.some K) =
-        cond-elim (Unpacks r) (yearOut K y) _ _ (λ h. unpacks-refused r 1 (λ g n. omega arith))
-        (λ h. cond-elim (Unpacks r) (noMonth K y m) _ _ (λ h. unpacks-refused r 2 (λ g n. omega arith))
-        (λ h. cond-elim (Unpacks r) (noDay K y m d) _ _ (λ h. unpacks-refused r 3 (λ g n. omega arith))
-        (λ h. cond-elim (Unpacks r) (ended K (dayNumber K y m d)) _ _ (λ h. unpacks-refused r 16 (λ g n. refl))
-        (λ h. cond-elim (Unpacks r) (dayOut K (dayNumber K y m d)) _ _ (λ h. unpacks-refused r 4 (λ g n. omega arith))
-        (λ h. unpacks-day r (dayNumber K y m d)
-        (ltb-false lastDay (dayNumber K y m d) (neither (ltb lastDay (dayNumber K y m d)) (ltb (dayNumber K y m d) K.firstDay) h).0))))))
+        cond_elim (Unpacks r) (year_out K y) _ _ (λ h. unpacks_refused r 1 (λ g n. omega arith))
+        (λ h. cond_elim (Unpacks r) (no_month K y m) _ _ (λ h. unpacks_refused r 2 (λ g n. omega arith))
+        (λ h. cond_elim (Unpacks r) (no_day K y m d) _ _ (λ h. unpacks_refused r 3 (λ g n. omega arith))
+        (λ h. cond_elim (Unpacks r) (ended K (day_number K y m d)) _ _ (λ h. unpacks_refused r 16 (λ g n. refl))
+        (λ h. cond_elim (Unpacks r) (day_out K (day_number K y m d)) _ _ (λ h. unpacks_refused r 4 (λ g n. omega arith))
+        (λ h. unpacks_day r (day_number K y m d)
+        (ltb-false last_day (day_number K y m d) (neither (ltb last_day (day_number K y m d)) (ltb (day_number K y m d) K.first_day) h).0))))))
 
 -- and with one
-pub unpacks : (c : ℕ) (y : ℤ) (m d w r : ℕ) → Unpacks r (dayAnswerWith c y m d w)
-unpacks c y m d w r = subst (Unpacks r) (sym (with-weekday c y m d w)) (go (tried w (dayAnswer c y m d)))
+pub unpacks : (c : ℕ) (y : ℤ) (m d w r : ℕ) → Unpacks r (day_answer_with c y m d w)
+unpacks c y m d w r = subst (Unpacks r) (sym (with_weekday c y m d w)) (go (tried w (day_answer c y m d)))
   where
-    go : ((weekdayTried w (dayAnswer c y m d) ≡ noDayAnswer 13) × ((dayAnswer c y m d).number ≡ 0) × ¬ FitsDay w (dayAnswer c y m d).day)
-        ⊎ ((weekdayTried w (dayAnswer c y m d) ≡ dayAnswer c y m d) × ((dayAnswer c y m d).number ≡ 0 → FitsDay w (dayAnswer c y m d).day))
-        → Unpacks r (weekdayTried w (dayAnswer c y m d))
-    go (inl t) = subst (Unpacks r) (sym t.0) (unpacks-refused r 12 (λ g n. absurd (n refl)))
-    go (inr t) = subst (Unpacks r) (sym t.0) (unpacks-rest c y m d r)
+    go : ((weekday_tried w (day_answer c y m d) ≡ no_day_answer 13) × ((day_answer c y m d).number ≡ 0) × ¬ FitsDay w (day_answer c y m d).day)
+        ⊎ ((weekday_tried w (day_answer c y m d) ≡ day_answer c y m d) × ((day_answer c y m d).number ≡ 0 → FitsDay w (day_answer c y m d).day))
+        → Unpacks r (weekday_tried w (day_answer c y m d))
+    go (inl t) = subst (Unpacks r) (sym t.0) (unpacks_refused r 12 (λ g n. absurd (n refl)))
+    go (inr t) = subst (Unpacks r) (sym t.0) (unpacks_rest c y m d r)
 
 -- from the one to the other
-pub packed-with : (c : ℕ) (y : ℤ) (m d w r : ℕ) → r ≡ packedDay (dayAnswer c y m d) → packedTried w r ≡ packedDay (dayAnswerWith c y m d w)
-unfolding weekdayTried
-packed-with c y m d w r e = go (r / 4294967296) refl (unpacks-rest c y m d r e) ∙ ap packedDay (sym (with-weekday c y m d w))
+pub packed_with : (c : ℕ) (y : ℤ) (m d w r : ℕ) → r ≡ packed_day (day_answer c y m d) → packed_tried w r ≡ packed_day (day_answer_with c y m d w)
+unfolding weekday_tried
+packed_with c y m d w r e = go (r / 4294967296) refl (unpacks_rest c y m d r e) ∙ ap packed_day (sym (with_weekday c y m d w))
   where
-    either_way : (t : Bool) → cond t (13 * 2 ^ 32) r ≡ packedDay (cond t (noDayAnswer 13) (record { number = 0; day = r }))
+    either_way : (t : Bool) → cond t (13 * 2 ^ 32) r ≡ packed_day (cond t (no_day_answer 13) (record { number = 0; day = r }))
     either_way true = refl
     either_way false = omega arith
 
     go : (k : ℕ) → r / 4294967296 ≡ k
         → (5 < r / 4294967296 → ¬ (r / 4294967296 ≡ 13) → r / 4294967296 ≡ 17)
-        × (r / 4294967296 ≡ 0 → ◌≡◌ {A = DayAnswer} (record { number = 0; day = r }) (dayAnswer c y m d))
-        × ((k : ℕ) → r / 4294967296 ≡ suc k → noDayAnswer (suc k) ≡ dayAnswer c y m d)
-        → packedTried w r ≡ packedDay (weekdayTried w (dayAnswer c y m d))
-    go zero f u = rw (sym (u.1 f), lt-ltb r 4294967296 (omega arith)) (either_way (wrongWeekday w r))
+        × (r / 4294967296 ≡ 0 → ◌≡◌ {A = DayAnswer} (record { number = 0; day = r }) (day_answer c y m d))
+        × ((k : ℕ) → r / 4294967296 ≡ suc k → no_day_answer (suc k) ≡ day_answer c y m d)
+        → packed_tried w r ≡ packed_day (weekday_tried w (day_answer c y m d))
+    go zero f u = rw (sym (u.1 f), lt-ltb r 4294967296 (omega arith)) (either_way (wrong_weekday w r))
     go (suc k) f u =
         let n = ap (λ (a : DayAnswer). a.number) (u.2 k f) in
-        rw (le-ltb r 4294967296 (omega arith), refused w (dayAnswer c y m d) (λ z. omega (arith, n, z))) e
+        rw (le-ltb r 4294967296 (omega arith), refused w (day_answer c y m d) (λ z. omega (arith, n, z))) e
 
 -- and its two fields
-pub fields : (c : ℕ) (y : ℤ) (m d w r : ℕ) → r ≡ packedDay (dayAnswerWith c y m d w)
-    → ◌≡◌ {A = DayAnswer} (record { number = r / 4294967296; day = r % 4294967296 }) (dayAnswerWith c y m d w)
+pub fields : (c : ℕ) (y : ℤ) (m d w r : ℕ) → r ≡ packed_day (day_answer_with c y m d w)
+    → ◌≡◌ {A = DayAnswer} (record { number = r / 4294967296; day = r % 4294967296 }) (day_answer_with c y m d w)
 fields c y m d w r e = go (r / 4294967296) refl (unpacks c y m d w r e)
   where
-    both-are : {a b : ℕ} → r / 4294967296 ≡ a → r % 4294967296 ≡ b
+    both_are : {a b : ℕ} → r / 4294967296 ≡ a → r % 4294967296 ≡ b
         → ◌≡◌ {A = DayAnswer} (record { number = r / 4294967296; day = r % 4294967296 }) (record { number = a; day = b })
-    both-are f g = λ i. record { number = f i; day = g i }
+    both_are f g = λ i. record { number = f i; day = g i }
 
     go : (k : ℕ) → r / 4294967296 ≡ k
         → (5 < r / 4294967296 → ¬ (r / 4294967296 ≡ 13) → r / 4294967296 ≡ 17)
-        × (r / 4294967296 ≡ 0 → ◌≡◌ {A = DayAnswer} (record { number = 0; day = r }) (dayAnswerWith c y m d w))
-        × ((k : ℕ) → r / 4294967296 ≡ suc k → noDayAnswer (suc k) ≡ dayAnswerWith c y m d w)
-        → ◌≡◌ {A = DayAnswer} (record { number = r / 4294967296; day = r % 4294967296 }) (dayAnswerWith c y m d w)
-    go zero f u = both-are f (omega arith) ∙ u.1 f
-    go (suc k) f u = let p = ap packedDay (u.2 k f) in both-are f (omega arith) ∙ u.2 k f
+        × (r / 4294967296 ≡ 0 → ◌≡◌ {A = DayAnswer} (record { number = 0; day = r }) (day_answer_with c y m d w))
+        × ((k : ℕ) → r / 4294967296 ≡ suc k → no_day_answer (suc k) ≡ day_answer_with c y m d w)
+        → ◌≡◌ {A = DayAnswer} (record { number = r / 4294967296; day = r % 4294967296 }) (day_answer_with c y m d w)
+    go zero f u = both_are f (omega arith) ∙ u.1 f
+    go (suc k) f u = let p = ap packed_day (u.2 k f) in both_are f (omega arith) ∙ u.2 k f
 
 -- ---- day to date
 
 -- in a calendar: where the month is 0 there is no date, and why not
 module _ {c : ℕ} {K : Calendar} (l : Listed c K) (n : ℕ) where
   -- a day that has a date
-  month-from-1 : K.firstDay ≤ n → n ≤ last_of K → 1 ≤ (dateFor K n).month
-  month-from-1 f k =
-      let g = counted (years K) (has-days (listed-sound l).bounded) (n - K.firstDay) in
-      omega (arith, ap (λ (a : DateAnswer). a.month) (answered K n f k), g.0.month-from-1)
+  month_from_1 : K.first_day ≤ n → n ≤ last_of K → 1 ≤ (date_for K n).month
+  month_from_1 f k =
+      let g = counted (years K) (has_days (listed_sound l).bounded) (n - K.first_day) in
+      omega (arith, ap (λ (a : DateAnswer). a.month) (answered K n f k), g.0.month_from_1)
 
-  why-not : (dateFor K n).month ≡ 0 → dateFor K n ≡ noDateAnswer (whyNot K n)
-  unfolding dateFor
-  why-not z = go (dec_lt lastDay n) (dec_lt (last_of K) n)
+  why_not_lem : (date_for K n).month ≡ 0 → date_for K n ≡ no_date_answer (why_not K n)
+  unfolding date_for
+  why_not_lem z = go (dec_lt last_day n) (dec_lt (last_of K) n)
     where
-      go : Dec (lastDay < n) → Dec (last_of K < n) → dateFor K n ≡ noDateAnswer (whyNot K n)
-      go (yes h) b = rw (lt-ltb lastDay n h) refl
+      go : Dec (last_day < n) → Dec (last_of K < n) → date_for K n ≡ no_date_answer (why_not K n)
+      go (yes h) b = rw (lt-ltb last_day n h) refl
       go (no h) (yes k) =
           rw (
-            le-ltb lastDay n (omega arith),
-            le-ltb n K.firstDay (omega (arith, (listed-sound l).to_last)),
+            le-ltb last_day n (omega arith),
+            le-ltb n K.first_day (omega (arith, (listed_sound l).to_last)),
             lt-ltb (last_of K) n k,
             past_end K.end k (omega arith),
           ) refl
-      go (no h) (no k) = early (dec_lt n K.firstDay)
+      go (no h) (no k) = early (dec_lt n K.first_day)
         where
-          early : Dec (n < K.firstDay) → dateFor K n ≡ noDateAnswer (whyNot K n)
-          early (yes f) = rw (le-ltb lastDay n (omega arith), lt-ltb n K.firstDay f, le-ltb (last_of K) n (omega arith)) refl
-          early (no f) = absurd (omega (arith, month-from-1 (omega arith) (omega arith)))
+          early : Dec (n < K.first_day) → date_for K n ≡ no_date_answer (why_not K n)
+          early (yes f) = rw (le-ltb last_day n (omega arith), lt-ltb n K.first_day f, le-ltb (last_of K) n (omega arith)) refl
+          early (no f) = absurd (omega (arith, month_from_1 (omega arith) (omega arith)))
 
   -- after the last day, and before the first
-  late-month : last_of K < n → (dateFor K n).month ≡ 0
-  unfolding dateFor
-  late-month h = go (dec_lt lastDay n)
+  late_month : last_of K < n → (date_for K n).month ≡ 0
+  unfolding date_for
+  late_month h = go (dec_lt last_day n)
     where
-      go : Dec (lastDay < n) → (dateFor K n).month ≡ 0
-      go (yes k) = rw (lt-ltb lastDay n k) refl
-      go (no k) = cond-elim (λ (a : DateAnswer). a.month ≡ 0) (dayOut K n) _ _ (λ e. refl) (λ e. rw (past_end K.end h (omega arith)) refl)
+      go : Dec (last_day < n) → (date_for K n).month ≡ 0
+      go (yes k) = rw (lt-ltb last_day n k) refl
+      go (no k) = cond_elim (λ (a : DateAnswer). a.month ≡ 0) (day_out K n) _ _ (λ e. refl) (λ e. rw (past_end K.end h (omega arith)) refl)
 
-  early-month : n ≤ lastDay → n < K.firstDay → (dateFor K n).month ≡ 0
-  unfolding dateFor
-  early-month k h = rw (le-ltb lastDay n k, lt-ltb n K.firstDay h) refl
+  early_month : n ≤ last_day → n < K.first_day → (date_for K n).month ≡ 0
+  unfolding date_for
+  early_month k h = rw (le-ltb last_day n k, lt-ltb n K.first_day h) refl
 
   -- the date that was found is the one that is answered
-  placed-date : {y : ℤ} {m d : ℕ} → PlaceTo K (last_of K) n y m d
-      → (m ≡ (dateFor K n).month) × ((m ≡ 0 → ⊥) → (y ≡ (dateFor K n).year) × (d ≡ (dateFor K n).day))
-  placed-date {y} {m} {d} p = go (dec_lt (last_of K) n) (dec_lt n K.firstDay)
+  placed_date : {y : ℤ} {m d : ℕ} → PlaceTo K (last_of K) n y m d
+      → (m ≡ (date_for K n).month) × ((m ≡ 0 → ⊥) → (y ≡ (date_for K n).year) × (d ≡ (date_for K n).day))
+  placed_date {y} {m} {d} p = go (dec_lt (last_of K) n) (dec_lt n K.first_day)
     where
-      go : Dec (last_of K < n) → Dec (n < K.firstDay) → (m ≡ (dateFor K n).month) × ((m ≡ 0 → ⊥) → (y ≡ (dateFor K n).year) × (d ≡ (dateFor K n).day))
-      go (yes k) b = (p.late k ∙ sym (late-month k), λ e. absurd (e (p.late k)))
+      go : Dec (last_of K < n) → Dec (n < K.first_day) → (m ≡ (date_for K n).month) × ((m ≡ 0 → ⊥) → (y ≡ (date_for K n).year) × (d ≡ (date_for K n).day))
+      go (yes k) b = (p.late k ∙ sym (late_month k), λ e. absurd (e (p.late k)))
       go (no k) (yes h) =
-          let z = (p.in-time (omega arith)).early h in
-          (z ∙ sym (early-month (last-in K.end (omega arith)).0 h), λ e. absurd (e z))
+          let z = (p.in_time (omega arith)).early h in
+          (z ∙ sym (early_month (last_in K.end (omega arith)).0 h), λ e. absurd (e z))
       go (no k) (no h) =
-          let D = (p.in-time (omega arith)).there (omega arith) in
+          let D = (p.in_time (omega arith)).there (omega arith) in
           rw (answered K n (omega arith) (omega arith)) (D.month, λ e. (D.year, D.day))
 
 -- the date of a day that is not too late, of a calendar that did not end
-pub to_last : {K : Calendar} {n : ℕ} {y : ℤ} {m d : ℕ} → n ≤ lastDay → PlaceOf K n y m d → PlaceTo K lastDay n y m d
-to_last h p = record { late = λ l. absurd (omega arith); in-time = λ l. p }
+pub to_last : {K : Calendar} {n : ℕ} {y : ℤ} {m d : ℕ} → n ≤ last_day → PlaceOf K n y m d → PlaceTo K last_day n y m d
+to_last h p = record { late = λ l. absurd (omega arith); in_time = λ l. p }
 
 module _ (c n : ℕ) where
   -- what holds of the refusal of a number that is not listed, and of what its calendar answers
-  of-answer : (P : DateAnswer → Type 0) → (calendar c ≡ Option.none → P (noDateAnswer 1)) → OfListed c (λ K. P (dateFor K n)) → P (dateAnswer c n)
-  unfolding dateAnswer
-  of-answer P r f = go (calendar c) refl
+  of_answer : (P : DateAnswer → Type 0) → (calendar c ≡ Option.none → P (no_date_answer 1)) → OfListed c (λ K. P (date_for K n)) → P (date_answer c n)
+  unfolding date_answer
+  of_answer P r f = go (calendar c) refl
     where
-      go : (o : Option Calendar) → calendar c ≡ o → P (ofListed o (noDateAnswer 1) (λ K. dateFor K n))
+      go : (o : Option Calendar) → calendar c ≡ o → P (of_listed o (no_date_answer 1) (λ K. date_for K n))
       go Option.none e = r e
       go (Option.some K) e = f K (record { row = e })
 
-  pub late-date : {y : ℤ} {m d : ℕ} → m ≡ 0 → lastDay < n → Found c n y m d
-  late-date {y} {m} {d} z h =
+  pub late_date : {y : ℤ} {m d : ℕ} → m ≡ 0 → last_day < n → Found c n y m d
+  late_date {y} {m} {d} z h =
       record {
-        month = of-answer (λ a. m ≡ a.month) (λ e. z) (λ K l. z ∙ sym (late-month l n (omega (arith, last-small K.end))));
+        month = of_answer (λ a. m ≡ a.month) (λ e. z) (λ K l. z ∙ sym (late_month l n (omega (arith, last_small K.end))));
         rest = λ e. absurd (e z);
       }
 
-  pub date-found : {y : ℤ} {m d : ℕ} → Answered c (λ K. PlaceTo K (last_of K) n y m d) m → Found c n y m d
-  date-found {y} {m} {d} p =
+  pub date_found : {y : ℤ} {m d : ℕ} → Answered c (λ K. PlaceTo K (last_of K) n y m d) m → Found c n y m d
+  date_found {y} {m} {d} p =
       record {
-        month = of-answer (λ a. m ≡ a.month) p.off (λ K l. (placed-date l n (p.on K l)).0);
-        rest = of-answer (λ a. (m ≡ 0 → ⊥) → (y ≡ a.year) × (d ≡ a.day)) (λ e h. absurd (h (p.off e))) (λ K l. (placed-date l n (p.on K l)).1);
+        month = of_answer (λ a. m ≡ a.month) p.off (λ K l. (placed_date l n (p.on K l)).0);
+        rest = of_answer (λ a. (m ≡ 0 → ⊥) → (y ≡ a.year) × (d ≡ a.day)) (λ e h. absurd (h (p.off e))) (λ K l. (placed_date l n (p.on K l)).1);
       }
 
   -- and back: it is refused where its month is 0, and only there
-  pub date-refused : (dateAnswer c n).month ≡ 0
-      → (calendar c ≡ Option.none → noDateAnswer 1 ≡ dateAnswer c n) × OfListed c (λ K. noDateAnswer (whyNot K n) ≡ dateAnswer c n)
-  date-refused z = ((λ e. rw (none-asked e) refl), λ K l. sym (date-asked l n ∙ why-not l n (sym (ap (λ (a : DateAnswer). a.month) (date-asked l n)) ∙ z)))
+  pub date_refused : (date_answer c n).month ≡ 0
+      → (calendar c ≡ Option.none → no_date_answer 1 ≡ date_answer c n) × OfListed c (λ K. no_date_answer (why_not K n) ≡ date_answer c n)
+  date_refused z = ((λ e. rw (none_asked e) refl), λ K l. sym (date_asked l n ∙ why_not_lem l n (sym (ap (λ (a : DateAnswer). a.month) (date_asked l n)) ∙ z)))
     where
-      none-asked : calendar c ≡ Option.none → dateAnswer c n ≡ noDateAnswer 1
-      none-asked e = of-answer (λ a. a ≡ noDateAnswer 1) (λ f. refl) (λ K l. never (sym l.row ∙ e))
+      none_asked : calendar c ≡ Option.none → date_answer c n ≡ no_date_answer 1
+      none_asked e = of_answer (λ a. a ≡ no_date_answer 1) (λ f. refl) (λ K l. never (sym l.row ∙ e))
 
-  pub date-given : ((dateAnswer c n).month ≡ 0 → ⊥) → (0 ≡ (dateAnswer c n).number) × (weekdayOf n ≡ (dateAnswer c n).weekday)
-  unfolding dateFor
-  date-given =
-      of-answer (λ a. (a.month ≡ 0 → ⊥) → (0 ≡ a.number) × (weekdayOf n ≡ a.weekday)) (λ e h. absurd (h refl))
-      (λ K l. in-range K (dayOut K n) (ended K n))
+  pub date_given : ((date_answer c n).month ≡ 0 → ⊥) → (0 ≡ (date_answer c n).number) × (weekday_of n ≡ (date_answer c n).weekday)
+  unfolding date_for
+  date_given =
+      of_answer (λ a. (a.month ≡ 0 → ⊥) → (0 ≡ a.number) × (weekday_of n ≡ a.weekday)) (λ e h. absurd (h refl))
+      (λ K l. in_range_lem K (day_out K n) (ended K n))
     where
-      in-range : (K : Calendar) (t u : Bool)
-          → let a = cond t (noDateAnswer 5) (cond u (noDateAnswer 17) (dated K (dateOn K n) (weekdayOf n))) in
-          (a.month ≡ 0 → ⊥) → (0 ≡ a.number) × (weekdayOf n ≡ a.weekday)
-      in-range K true u h = absurd (h refl)
-      in-range K false true h = absurd (h refl)
-      in-range K false false h = (refl, refl)
+      in_range_lem : (K : Calendar) (t u : Bool)
+          → let a = cond t (no_date_answer 5) (cond u (no_date_answer 17) (dated K (date_on K n) (weekday_of n))) in
+          (a.month ≡ 0 → ⊥) → (0 ≡ a.number) × (weekday_of n ≡ a.weekday)
+      in_range_lem K true u h = absurd (h refl)
+      in_range_lem K false true h = absurd (h refl)
+      in_range_lem K false false h = (refl, refl)

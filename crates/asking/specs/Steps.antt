@@ -2,14 +2,14 @@
 use Rattle.std.specs.Prelude.{ℕ, ◌+◌, ◌-◌, ◌*◌, ◌^◌, Bool, true, false, cond, not, ◌&&◌, ◌||◌, ◌≡◌, eqb, ltb, ℤ, negsuc}
 use Rattle.std.proofs.Math.Option.{Option}
 use Rattle.std.specs.Int.Signed.{lt_z}
-use Rattle.counting.specs.Years.{yearsFrom}
-use Rattle.counting.specs.Answers.{Calendar, DayAnswer, noDayAnswer, lastDay, lastYear, yearOut, ended, wrongWeekday, last_of}
-use Rattle.counting.specs.Positions.{Kind, PositionAnswer, noPositionAnswer}
+use Rattle.counting.specs.Years.{years_from}
+use Rattle.counting.specs.Answers.{Calendar, DayAnswer, no_day_answer, last_day, last_year, year_out, ended, wrong_weekday, last_of}
+use Rattle.counting.specs.Positions.{Kind, PositionAnswer, no_position_answer}
 use Rattle.calendar_rules.specs.Calendars.{calendar, Listed}
-use Rattle.calendar_rules.specs.Answers.{ofListed, dateAnswer}
+use Rattle.calendar_rules.specs.Answers.{of_listed, date_answer}
 
 unfoldable pub listed : ℕ → Bool
-listed c = ofListed (calendar c) false (λ K. true)
+listed c = of_listed (calendar c) false (λ K. true)
 
 -- what holds of the calendar that is listed for a number, if one is
 abbrev pub OfListed : ℕ → (Calendar → Type 0) → Type 0
@@ -21,73 +21,73 @@ pub record Answered (c : ℕ) (P : Calendar → Type 0) (x : ℕ) : Type 0 where
   pub off : calendar c ≡ Option.none → x ≡ 0
 
 -- an answer as one number: the answer number 2^32 high
-abbrev pub packedDay : DayAnswer → ℕ
-packedDay x = x.number * 2 ^ 32 + x.day
+abbrev pub packed_day : DayAnswer → ℕ
+packed_day x = x.number * 2 ^ 32 + x.day
 
 -- a weekday tried on such a number
-abbrev pub packedTried : ℕ → ℕ → ℕ
-packedTried w r = cond (ltb r (2 ^ 32) && wrongWeekday w r) (13 * 2 ^ 32) r
+abbrev pub packed_tried : ℕ → ℕ → ℕ
+packed_tried w r = cond (ltb r (2 ^ 32) && wrong_weekday w r) (13 * 2 ^ 32) r
 
 -- why there is no position of year y that was sought: 1, 2 or 3, whichever is first
-unfoldable pub noneNumber : ℕ → ℤ → ℕ
-noneNumber c y = ofListed (calendar c) 1 (λ K. cond (yearOut K y) 2 3)
+unfoldable pub none_number : ℕ → ℤ → ℕ
+none_number c y = of_listed (calendar c) 1 (λ K. cond (year_out K y) 2 3)
 
-abbrev pub packedNone : ℕ → ℤ → ℕ
-packedNone c y = noneNumber c y * 2 ^ 32
+abbrev pub packed_none : ℕ → ℤ → ℕ
+packed_none c y = none_number c y * 2 ^ 32
 
 -- the same as an answer: 3 is none where the position is one that some years have
-abbrev pub noneThere : ℕ → ℕ → ℕ → PositionAnswer
-noneThere c m k = cond (eqb k 3 && eqb c 18 && eqb m 7) (record { number = 0; kind = Kind.none; days = 0 }) (noPositionAnswer k)
+abbrev pub none_there : ℕ → ℕ → ℕ → PositionAnswer
+none_there c m k = cond (eqb k 3 && eqb c 18 && eqb m 7) (record { number = 0; kind = Kind.none; days = 0 }) (no_position_answer k)
 
 -- the kind of a position that has days, where the calendar's strip, or 0, is p
 abbrev pub kind_at : ℕ → ℕ → Kind
 kind_at p m = cond (eqb m p) Kind.strip Kind.month
 
-abbrev pub stripOr0 : Option ℕ → ℕ
-stripOr0 Option.none = 0
-stripOr0 (Option.some p) = p
+abbrev pub strip_or0 : Option ℕ → ℕ
+strip_or0 Option.none = 0
+strip_or0 (Option.some p) = p
 
 -- some calendar may have year y
-abbrev pub yearInside : ℤ → Bool
-yearInside y = not (lt_z y (negsuc 4711) || lt_z lastYear y)
+abbrev pub year_inside : ℤ → Bool
+year_inside y = not (lt_z y (negsuc 4711) || lt_z last_year y)
 
 -- the years from -4712 to such a year; 0 to any other
-unfoldable pub yearsSince : ℤ → ℕ
-yearsSince y = cond (yearInside y) (yearsFrom (negsuc 4711) y) 0
+unfoldable pub years_since : ℤ → ℕ
+years_since y = cond (year_inside y) (years_from (negsuc 4711) y) 0
 
 -- what was found of year y, where P is to hold of the calendar and the years from its first, and days are 0 where there is no such year
 pub record Sought (c : ℕ) (y : ℤ) (P : Calendar → ℕ → Type 0) (days : ℕ) : Type 0 where
   pub off : calendar c ≡ Option.none → days ≡ 0
-  pub out : OfListed c (λ K. yearOut K y ≡ true → days ≡ 0)
-  pub there : OfListed c (λ K. yearOut K y ≡ false → P K (yearsFrom K.firstYear y))
+  pub out : OfListed c (λ K. year_out K y ≡ true → days ≡ 0)
+  pub there : OfListed c (λ K. year_out K y ≡ false → P K (years_from K.first_year y))
 
 -- a day of a date that the calendar has: 17 and 5, which are tried
-abbrev pub onDay : Calendar → ℕ → DayAnswer
-onDay K n =
-    cond (ended K n) (noDayAnswer 17)
-    (cond (ltb lastDay n) (noDayAnswer 5)
+abbrev pub on_day : Calendar → ℕ → DayAnswer
+on_day K n =
+    cond (ended K n) (no_day_answer 17)
+    (cond (ltb last_day n) (no_day_answer 5)
     (record { number = 0; day = n }))
 
 -- the same as one number in two steps: 5 is tried on the day, and 17 on the day or on that 5
 abbrev pub in_range : ℕ → ℕ
-in_range n = cond (ltb lastDay n) (5 * 2 ^ 32) n
+in_range n = cond (ltb last_day n) (5 * 2 ^ 32) n
 
-unfoldable pub tryEnd : Option ℕ → ℕ → ℕ
-tryEnd Option.none r = r
-tryEnd (Option.some e) r = cond (ltb e r && (ltb r (2 ^ 32) || eqb r (5 * 2 ^ 32))) (17 * 2 ^ 32) r
+unfoldable pub try_end : Option ℕ → ℕ → ℕ
+try_end Option.none r = r
+try_end (Option.some e) r = cond (ltb e r && (ltb r (2 ^ 32) || eqb r (5 * 2 ^ 32))) (17 * 2 ^ 32) r
 
-unfoldable pub endTried : ℕ → ℕ → ℕ
-endTried c r = ofListed (calendar c) r (λ K. tryEnd K.end r)
+unfoldable pub end_tried : ℕ → ℕ → ℕ
+end_tried c r = of_listed (calendar c) r (λ K. try_end K.end r)
 
 -- day d of a position that begins on day b and has l days
-abbrev pub dayIn : Calendar → ℕ → ℕ → ℕ → DayAnswer
-dayIn K b l d = cond (eqb d 0 || ltb l d) (noDayAnswer 4) (onDay K (b + (d - 1)))
+abbrev pub day_in : Calendar → ℕ → ℕ → ℕ → DayAnswer
+day_in K b l d = cond (eqb d 0 || ltb l d) (no_day_answer 4) (on_day K (b + (d - 1)))
 
 -- why a day has no date: it is too late, or after the calendar's end, or else too early
-abbrev pub whyNot : Calendar → ℕ → ℕ
-whyNot K n = cond (ltb lastDay n) 5 (cond (ltb (last_of K) n) 17 5)
+abbrev pub why_not : Calendar → ℕ → ℕ
+why_not K n = cond (ltb last_day n) 5 (cond (ltb (last_of K) n) 17 5)
 
 -- the date that was found of day n: month 0 where it is refused, and then year and day are open
 pub record Found (c n : ℕ) (y : ℤ) (m d : ℕ) : Type 0 where
-  pub month : m ≡ (dateAnswer c n).month
-  pub rest : (m ≡ 0 → ⊥) → (y ≡ (dateAnswer c n).year) × (d ≡ (dateAnswer c n).day)
+  pub month : m ≡ (date_answer c n).month
+  pub rest : (m ≡ 0 → ⊥) → (y ≡ (date_answer c n).year) × (d ≡ (date_answer c n).day)

@@ -1,18 +1,20 @@
 // The Bahai calendar, 14: eighteen positions of 19 days, one of 4 or 5, and one of 19 again. Counted from the last, where the extra day comes at the end, its
 // years are nineteen positions of 19 days and the short one, and of the Gregorian kind: the extra day of year Y falls in the Gregorian year Y + 1844, and the
 // first year, which is year 1, is the year 6644 from -4800. Positions are counted from 0.
+#![tactic(auto)]
+
 ghost use Rattle.std.specs.Prelude.{◌≡◌, ◌<◌, get_or};
 ghost use Rattle.calendar_rules.specs.Calendars.{bahai};
-ghost use Rattle.months.specs.BahaiSaka.{fromLast};
-ghost use Rattle.months.specs.Leap.{gregorianLong};
-ghost use Rattle.months.specs.Parts.{lengthAt, MonthOf, PlaceOf};
+ghost use Rattle.months.specs.BahaiSaka.{from_last};
+ghost use Rattle.months.specs.Leap.{gregorian_long};
+ghost use Rattle.months.specs.Parts.{length_at, MonthOf, PlaceOf};
 
 use parts::{Month, Place};
 
 // The length of position q of year z as so counted: the rule is looked at only for the short one.
 fn counted_length(z: u32, q: u64) -> u64
     requires { q < 20 }
-    ensures { result ≡ get_or (fromLast (gregorianLong z)) q 0 }
+    ensures { result ≡ get_or (from_last (gregorian_long z)) q 0 }
 {
     if q != 19 {
         return 19;
@@ -21,7 +23,7 @@ fn counted_length(z: u32, q: u64) -> u64
 }
 
 pub fn length_at(i: u16, p: u64) -> u64
-    ensures { result ≡ lengthAt bahai i p }
+    ensures { result ≡ length_at bahai i p }
 {
     if 19 < p {
         return 0;

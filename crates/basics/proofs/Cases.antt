@@ -8,9 +8,9 @@ use lib.Dec.{eqb}
 use borrow.Author.Tests.{eqb-true, eqb-false, eq-eqb, ne_eqb}
 
 -- what holds of either choice, each where it is taken, holds of the choice
-pub cond-elim : {A : Type 0} (P : A → Type 0) (t : Bool) (a b : A) → (t ≡ true → P a) → (t ≡ false → P b) → P (cond t a b)
-cond-elim P true a b f g = f refl
-cond-elim P false a b f g = g refl
+pub cond_elim : {A : Type 0} (P : A → Type 0) (t : Bool) (a b : A) → (t ≡ true → P a) → (t ≡ false → P b) → P (cond t a b)
+cond_elim P true a b f g = f refl
+cond_elim P false a b f g = g refl
 
 -- where both are asked and hold, each holds
 pub both : (t u : Bool) → (t && u) ≡ true → (t ≡ true) × (u ≡ true)
@@ -35,8 +35,8 @@ fails true f = absurd (f refl)
 fails false f = refl
 
 -- so a test that holds just where P does fails just where P does not
-pub fails-where : (t : Bool) {P : Type 0} → (t ≡ true) ↔ P → (t ≡ false) ↔ (¬ P)
-fails-where t i = (λ e p. true≢false (sym (i.1 p) ∙ e), λ h. fails t (λ e. h (i.0 e)))
+pub fails_where : (t : Bool) {P : Type 0} → (t ≡ true) ↔ P → (t ≡ false) ↔ (¬ P)
+fails_where t i = (λ e p. true≢false (sym (i.1 p) ∙ e), λ h. fails t (λ e. h (i.0 e)))
 
 -- tests that come out alike
 pub same_test : (t u : Bool) → (t ≡ true → u ≡ true) → (t ≡ false → u ≡ false) → t ≡ u
@@ -44,8 +44,8 @@ same_test true u f g = sym (f refl)
 same_test false u f g = sym (g refl)
 
 -- equations of numbers that hold together are one test
-pub same-eqb : (a b x y : ℕ) → (a ≡ b → x ≡ y) → (x ≡ y → a ≡ b) → eqb a b ≡ eqb x y
-same-eqb a b x y f g = same_test (eqb a b) (eqb x y) (λ h. eq-eqb x y (f (eqb-true a b h))) (λ h. ne_eqb x y (λ e. eqb-false a b h (g e)))
+pub same_eqb : (a b x y : ℕ) → (a ≡ b → x ≡ y) → (x ≡ y → a ≡ b) → eqb a b ≡ eqb x y
+same_eqb a b x y f g = same_test (eqb a b) (eqb x y) (λ h. eq-eqb x y (f (eqb-true a b h))) (λ h. ne_eqb x y (λ e. eqb-false a b h (g e)))
 
 -- a fact of each number below n, from a proof for each: `p and q and .. and tt`
 infixr 10 ◌and◌

@@ -7,14 +7,14 @@ use native.Mathlib.Nat.{le_refl}
 use native.Mathlib.Omega.{arith}
 use Rattle.basics.specs.Every.{every}
 use Rattle.basics.proofs.Cases.{both}
-use Rattle.basics.proofs.Order.{le-or-lt}
+use Rattle.basics.proofs.Order.{le_or_lt}
 
-pub every-at : (f : ℕ → Bool) (n : ℕ) → every f n ≡ true → (k : ℕ) → k < n → f k ≡ true
+pub every_at : (f : ℕ → Bool) (n : ℕ) → every f n ≡ true → (k : ℕ) → k < n → f k ≡ true
 unfolding every
-every-at f zero t k h = absurd (omega arith)
-every-at f (suc n) t k h =
+every_at f zero t k h = absurd (omega arith)
+every_at f (suc n) t k h =
     let b = both (every f n) (f n) t in
-    ⊎_elim (λ l. every-at f n b.0 k l) (λ l. let e : n ≡ k = omega arith in ap f (sym e) ∙ b.1) (le-or-lt (suc k) n)
+    ⊎_elim (λ l. every_at f n b.0 k l) (λ l. let e : n ≡ k = omega arith in ap f (sym e) ∙ b.1) (le_or_lt (suc k) n)
 
 pub every_of : (f : ℕ → Bool) (n : ℕ) → ((k : ℕ) → k < n → f k ≡ true) → every f n ≡ true
 unfolding every

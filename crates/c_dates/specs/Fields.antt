@@ -6,16 +6,16 @@ use Rattle.c_dates.specs.declared.DayFields.{DayFields}
 use Rattle.c_dates.specs.declared.DateFields.{DateFields}
 use Rattle.c_dates.specs.declared.PositionFields.{PositionFields}
 
-abbrev pub dayFields : DayFields → DayAnswer
-dayFields x = record { number = x.number; day = x.day }
+abbrev pub day_fields : DayFields → DayAnswer
+day_fields x = record { number = x.number; day = x.day }
 
-abbrev pub dateFields : DateFields → DateAnswer
-dateFields x = record { number = x.number; year = x.year; month = x.month; day = x.day; weekday = x.weekday }
+abbrev pub date_fields : DateFields → DateAnswer
+date_fields x = record { number = x.number; year = x.year; month = x.month; day = x.day; weekday = x.weekday }
 
-abbrev pub kindNumber : Kind → ℕ
-kindNumber Kind.none = 0
-kindNumber Kind.month = 1
-kindNumber Kind.strip = 2
+abbrev pub kind_number : Kind → ℕ
+kind_number Kind.none = 0
+kind_number Kind.month = 1
+kind_number Kind.strip = 2
 
-abbrev pub positionFields : PositionAnswer → PositionFields
-positionFields x = record { number = x.number; kind = kindNumber x.kind; days = x.days }
+abbrev pub position_fields : PositionAnswer → PositionFields
+position_fields x = record { number = x.number; kind = kind_number x.kind; days = x.days }

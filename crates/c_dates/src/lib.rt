@@ -1,9 +1,11 @@
 // The calendars for C, C++ and Rust (`include/ijok.h`). An answer is returned as a struct by value, its number first, so that no result buffer can be too
 // short.
+#![tactic(auto)]
+
 ghost use Rattle.std.specs.Prelude.{◌≡◌, ◌/◌, ◌%◌};
-ghost use Rattle.calendar_rules.specs.Answers.{dayAnswerWith, dateAnswer, positionAnswer};
-ghost use Rattle.calendars.specs.Paper.{datePaper, positionPaper};
-ghost use Rattle.c_dates.specs.Fields.{dayFields, dateFields, positionFields};
+ghost use Rattle.calendar_rules.specs.Answers.{day_answer_with, date_answer, position_answer};
+ghost use Rattle.calendars.specs.Paper.{date_paper, position_paper};
+ghost use Rattle.c_dates.specs.Fields.{day_fields, date_fields, position_fields};
 
 use calendars::{Dated, Position};
 
@@ -61,7 +63,7 @@ pub extern "C" fn ijok_date_to_day(
     day: u64,
     weekday: u64,
 ) -> DayFields
-    ensures { dayFields result ≡ dayAnswerWith calendar year month day weekday }
+    ensures { day_fields result ≡ day_answer_with calendar year month day weekday }
 {
     if calendar == 18 {
         if weekday == 0 {
@@ -74,13 +76,13 @@ pub extern "C" fn ijok_date_to_day(
 // The date of a day.
 #[unsafe(no_mangle)]
 pub extern "C" fn ijok_day_to_date(calendar: u64, day: u64) -> DateFields
-    ensures { dateFields result ≡ dateAnswer calendar day }
+    ensures { date_fields result ≡ date_answer calendar day }
 {
     date_fields(calendars::day_to_date(calendar, day))
 }
 
 fn date_fields(answer: Dated) -> DateFields
-    ensures { dateFields result ≡ datePaper answer }
+    ensures { date_fields result ≡ date_paper answer }
 {
     match answer {
         Dated::On(date) => DateFields {
@@ -103,13 +105,13 @@ fn date_fields(answer: Dated) -> DateFields
 // What a position of a year is, and its length.
 #[unsafe(no_mangle)]
 pub extern "C" fn ijok_position(calendar: u64, year: i64, position: u64) -> PositionFields
-    ensures { result ≡ positionFields (positionAnswer calendar year position) }
+    ensures { result ≡ position_fields (position_answer calendar year position) }
 {
     position_fields(calendars::position_of(calendar, year, position))
 }
 
 fn position_fields(answer: Position) -> PositionFields
-    ensures { result ≡ positionFields (positionPaper answer) }
+    ensures { result ≡ position_fields (position_paper answer) }
 {
     match answer {
         Position::Month(days) => PositionFields {

@@ -2,5 +2,5 @@
 use Rattle.computus.specs.Rule.{EasterAnswer}
 use Rattle.c_easter.specs.declared.EasterFields.{EasterFields}
 
-abbrev pub easterFields : EasterFields → EasterAnswer
-easterFields x = record { number = x.number; month = x.month; day = x.day }
+abbrev pub easter_fields : EasterFields → EasterAnswer
+easter_fields x = record { number = x.number; month = x.month; day = x.day }

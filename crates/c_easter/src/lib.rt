@@ -1,8 +1,10 @@
 // Easter for C, C++ and Rust (`include/ijok.h`). The answer is returned as a struct by value, its number first.
+#![tactic(auto)]
+
 ghost use Rattle.std.specs.Prelude.{◌≡◌};
-ghost use Rattle.computus.specs.Rule.{easterAnswer};
-ghost use Rattle.easter.specs.Paper.{easterPaper};
-ghost use Rattle.c_easter.specs.Fields.{easterFields};
+ghost use Rattle.computus.specs.Rule.{easter_answer};
+ghost use Rattle.easter.specs.Paper.{easter_paper};
+ghost use Rattle.c_easter.specs.Fields.{easter_fields};
 
 use easter::EasterDate;
 
@@ -18,13 +20,13 @@ pub struct EasterFields {
 // Easter of a year of calendar 10 or 11.
 #[unsafe(no_mangle)]
 pub extern "C" fn ijok_easter(calendar: u64, year: i64) -> EasterFields
-    ensures { easterFields result ≡ easterAnswer calendar year }
+    ensures { easter_fields result ≡ easter_answer calendar year }
 {
     easter_fields(easter::easter(calendar, year))
 }
 
 fn easter_fields(answer: EasterDate) -> EasterFields
-    ensures { easterFields result ≡ easterPaper answer }
+    ensures { easter_fields result ≡ easter_paper answer }
 {
     match answer {
         EasterDate::On(feast) => EasterFields {

@@ -2,5 +2,5 @@
 use Rattle.lines.specs.Fit.{Answer}
 use Rattle.c_lines.specs.declared.LineFields.{LineFields}
 
-abbrev pub lineFields : LineFields → Answer
-lineFields x = record { number = x.number; a = x.a; b = x.b; r = x.r }
+abbrev pub line_fields : LineFields → Answer
+line_fields x = record { number = x.number; a = x.a; b = x.b; r = x.r }

@@ -1,11 +1,13 @@
 // Lines and codes for C, C++ and Rust (`include/ijok.h`). An answer is returned as a struct by value, its number first; a slice passes as a pointer and
 // then a length.
+#![tactic(auto)]
+
 ghost use Rattle.std.specs.Prelude.{◌≡◌};
-ghost use Rattle.lines.specs.Fit.{fitOf};
-ghost use Rattle.lines.specs.Unfold.{unfoldNumber, unfoldBuffer};
-ghost use Rattle.fitting.specs.Paper.{fitPaper};
-ghost use Rattle.unfolding.specs.Paper.{unfoldPaper};
-ghost use Rattle.c_lines.specs.Fields.{lineFields};
+ghost use Rattle.lines.specs.Fit.{fit_of};
+ghost use Rattle.lines.specs.Unfold.{unfold_number, unfold_buffer};
+ghost use Rattle.fitting.specs.Paper.{fit_paper};
+ghost use Rattle.unfolding.specs.Paper.{unfold_paper};
+ghost use Rattle.c_lines.specs.Fields.{line_fields};
 
 use codes::Line;
 use fitting::Fitted;
@@ -24,13 +26,13 @@ pub struct LineFields {
 // The line with the least denominator that generates a code.
 #[unsafe(no_mangle)]
 pub extern "C" fn ijok_fit(code: &[u64]) -> LineFields
-    ensures { lineFields result ≡ fitOf code.now }
+    ensures { line_fields result ≡ fit_of code.now }
 {
     line_fields(fitting::fit(code))
 }
 
 fn line_fields(answer: Fitted) -> LineFields
-    ensures { lineFields result ≡ fitPaper answer }
+    ensures { line_fields result ≡ fit_paper answer }
 {
     match answer {
         Fitted::By(line) => LineFields {
@@ -51,14 +53,14 @@ fn line_fields(answer: Fitted) -> LineFields
 // The first `count` lengths that a line yields, to the front of the buffer; the answer is the number alone.
 #[unsafe(no_mangle)]
 pub extern "C" fn ijok_unfold(a: u64, b: u64, r: u64, count: usize, buffer: &mut [u64]) -> u64
-    ensures answer { result ≡ unfoldNumber a b r count buffer.old }
-    ensures whole { buffer.new ≡ unfoldBuffer a b r count buffer.old }
+    ensures answer { result ≡ unfold_number a b r count buffer.old }
+    ensures whole { buffer.new ≡ unfold_buffer a b r count buffer.old }
 {
     unfold_number(unfolding::unfold(Line { a, b, r }, count, buffer))
 }
 
 fn unfold_number(answer: Unfolded) -> u64
-    ensures { result ≡ unfoldPaper answer }
+    ensures { result ≡ unfold_paper answer }
 {
     match answer {
         Unfolded::Done => 0,

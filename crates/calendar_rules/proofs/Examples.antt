@@ -3,62 +3,62 @@ use mathlib.Core.Path.{◌≡◌, refl, ap}
 use Prim.Native.Nat.{ℕ}
 use lib.IntN.{ℤ, pos}
 use Rattle.basics.specs.Every.{All}
-use Rattle.counting.specs.Calendar.{total, start, dayOf, firstFrom, newYear, dateAt}
-use Rattle.counting.specs.Answers.{Calendar, years, DayAnswer, weekdayOf, dayFor, weekdayTried, theDate, dateFor}
-use Rattle.counting.specs.Positions.{positionFor}
+use Rattle.counting.specs.Calendar.{total, start, day_of, first_from, new_year, date_at}
+use Rattle.counting.specs.Answers.{Calendar, years, DayAnswer, weekday_of, day_for, weekday_tried, the_date, date_for}
+use Rattle.counting.specs.Positions.{position_for}
 use Rattle.counting.proofs.Rounds.{there}
-use Rattle.hebrew.specs.Hebrew.{leap, monthsIn, monthsBefore, moon, moonDay, moonHour, secondApplies, thirdApplies, moved, fourthApplies, fourth, of_total}
-use Rattle.hebrew.specs.Hebrew.{newYear as hebrewNewYear, lengths as hebrewLengths}
+use Rattle.hebrew.specs.Hebrew.{leap, months_in, months_before, moon, moon_day, moon_hour, second_applies, third_applies, moved, fourth_applies, fourth, of_total}
+use Rattle.hebrew.specs.Hebrew.{new_year as hebrew_new_year, lengths as hebrew_lengths}
 use Rattle.calendar_rules.specs.Calendars.{republican, gregorian, lookup, calendar, Listed}
-use Rattle.calendar_rules.specs.Answers.{dayAnswer, dayAnswerWith, dateAnswer, positionAnswer}
+use Rattle.calendar_rules.specs.Answers.{day_answer, day_answer_with, date_answer, position_answer}
 use Rattle.calendar_rules.specs.Examples.{Answered, rows, limits, ends, strips, months, weekdays}
-use Rattle.calendar_rules.proofs.Listed.{listed-sound, sound-proper}
+use Rattle.calendar_rules.proofs.Listed.{listed_sound, sound_proper}
 
-pub rows-answered : All Answered rows
-unfolding dayAnswer calendar lookup dayFor years dayOf start total
-    leap monthsIn monthsBefore moon moonDay moonHour secondApplies thirdApplies moved fourthApplies fourth hebrewNewYear of_total hebrewLengths
-rows-answered =
+pub rows_answered : All Answered rows
+unfolding day_answer calendar lookup day_for years day_of start total
+    leap months_in months_before moon moon_day moon_hour second_applies third_applies moved fourth_applies fourth hebrew_new_year of_total hebrew_lengths
+rows_answered =
     (refl, (refl, (refl, (refl, (refl, (refl, (refl, (refl, (refl, (refl, (refl, (refl, (refl, (refl, (refl, (refl, tt))))))))))))))))
 
 -- the date of a day, from the day of that date
-from-date : {c : ℕ} (K : Calendar) → Listed c K → (y : ℤ) (m d n : ℕ) → dayFor K y m d ≡ record { number = 0; day = n }
-    → dateAnswer c n ≡ theDate y m d (weekdayOf n)
-unfolding dateAnswer
-from-date K l y m d n e =
-    let back = there K (sound-proper (listed-sound l)) y m d (ap (λ (a : DayAnswer). a.number) e) in
+from_date : {c : ℕ} (K : Calendar) → Listed c K → (y : ℤ) (m d n : ℕ) → day_for K y m d ≡ record { number = 0; day = n }
+    → date_answer c n ≡ the_date y m d (weekday_of n)
+unfolding date_answer
+from_date K l y m d n e =
+    let back = there K (sound_proper (listed_sound l)) y m d (ap (λ (a : DayAnswer). a.number) e) in
     let same = ap (λ (a : DayAnswer). a.day) e in
     rw l.row (rw same at back)
 
-last-day : dateAnswer 11 5373484 ≡ theDate (pos 9999) 12 31 5
-unfolding calendar lookup dayFor years dayOf start total
-last-day = from-date gregorian (record { row = refl }) (pos 9999) 12 31 5373484 refl
+last_day_lem : date_answer 11 5373484 ≡ the_date (pos 9999) 12 31 5
+unfolding calendar lookup day_for years day_of start total
+last_day_lem = from_date gregorian (record { row = refl }) (pos 9999) 12 31 5373484 refl
 
-pub limits-answered : All Answered limits
-unfolding dayAnswer dateAnswer positionAnswer calendar lookup dayFor dateFor positionFor years dayOf start total dateAt newYear firstFrom
-limits-answered =
-    (refl, (refl, (last-day, (refl, (refl, (refl, (refl, (refl, (refl, (refl, (refl, (refl, (refl, (refl, (refl, (refl, tt))))))))))))))))
+pub limits_answered : All Answered limits
+unfolding day_answer date_answer position_answer calendar lookup day_for date_for position_for years day_of start total date_at new_year first_from
+limits_answered =
+    (refl, (refl, (last_day_lem, (refl, (refl, (refl, (refl, (refl, (refl, (refl, (refl, (refl, (refl, (refl, (refl, (refl, tt))))))))))))))))
 
-end-day : dateAnswer 7 2380687 ≡ theDate (pos 14) 4 10 2
-unfolding calendar lookup dayFor years dayOf start total
-end-day = from-date republican (record { row = refl }) (pos 14) 4 10 2380687 refl
+end_day : date_answer 7 2380687 ≡ the_date (pos 14) 4 10 2
+unfolding calendar lookup day_for years day_of start total
+end_day = from_date republican (record { row = refl }) (pos 14) 4 10 2380687 refl
 
-pub ends-answered : All Answered ends
-unfolding dayAnswer dateAnswer positionAnswer calendar lookup dayFor dateFor positionFor years dayOf start total
-ends-answered =
-    (refl, (refl, (refl, (refl, (refl, (end-day, (refl, (refl, (refl, tt)))))))))
+pub ends_answered : All Answered ends
+unfolding day_answer date_answer position_answer calendar lookup day_for date_for position_for years day_of start total
+ends_answered =
+    (refl, (refl, (refl, (refl, (refl, (end_day, (refl, (refl, (refl, tt)))))))))
 
-pub strips-answered : All Answered strips
-unfolding positionAnswer calendar lookup positionFor
-strips-answered =
+pub strips_answered : All Answered strips
+unfolding position_answer calendar lookup position_for
+strips_answered =
     (refl, (refl, (refl, (refl, (refl, (refl, (refl, (refl, (refl, (refl, (refl, (refl, (refl, (refl, (refl, (refl, tt))))))))))))))))
 
-pub months-answered : All Answered months
-unfolding dayAnswer positionAnswer calendar lookup dayFor positionFor total
-    leap monthsIn monthsBefore moon moonDay moonHour secondApplies thirdApplies moved fourthApplies fourth hebrewNewYear of_total hebrewLengths
-months-answered =
+pub months_answered : All Answered months
+unfolding day_answer position_answer calendar lookup day_for position_for total
+    leap months_in months_before moon moon_day moon_hour second_applies third_applies moved fourth_applies fourth hebrew_new_year of_total hebrew_lengths
+months_answered =
     (refl, (refl, (refl, (refl, (refl, (refl, (refl, (refl, (refl, (refl, tt))))))))))
 
-pub weekdays-answered : All Answered weekdays
-unfolding dayAnswerWith dateAnswer calendar lookup dayFor weekdayTried dateFor years dayOf start total dateAt newYear firstFrom
-weekdays-answered =
+pub weekdays_answered : All Answered weekdays
+unfolding day_answer_with date_answer calendar lookup day_for weekday_tried date_for years day_of start total date_at new_year first_from
+weekdays_answered =
     (refl, (refl, (refl, (refl, (refl, (refl, (refl, (refl, (refl, (refl, (refl, (refl, (refl, (refl, tt))))))))))))))

@@ -10,17 +10,17 @@ use lib.Dec.{eqb, leb, ltb}
 use lib.IntN.{ℤ}
 use lib.Signed.{mag}
 use borrow.Author.Tests.{leb-true, eqb-true, ne_eqb}
-use Rattle.counting.specs.Calendar.{total, firstFrom}
+use Rattle.counting.specs.Calendar.{total, first_from}
 use Rattle.counting.specs.Answers.{Calendar, years, last_of, Proper}
 use Rattle.counting.proofs.Starts.{proper}
 use Rattle.basics.specs.Every.{every, All}
 use Rattle.basics.proofs.Cases.{both, ◌and◌}
 use Rattle.hebrew.specs.Hebrew.{leap}
-use Rattle.calendar_rules.specs.Calendars.{table, lookup, calendar, Listed, none, remainder, gregorianLeap, islamicLeap, bahaiLeap, sakaLeap}
+use Rattle.calendar_rules.specs.Calendars.{table, lookup, calendar, Listed, none, remainder, gregorian_leap, islamic_leap, bahai_leap, saka_leap}
 use Rattle.calendar_rules.specs.Calendars.{egyptian, armenian, khwarizmian, persian, ethiopian, coptic, republican, macedonian, syrian, julian}
-use Rattle.calendar_rules.specs.Calendars.{gregorian, islamicA, islamicB, bahai, saka, hebrew}
-use Rattle.calendar_rules.specs.Calendars.{thirtiesAnd5, fiveAt9, thirtiesAnd5or6, fromSeptember, fromOctober, fromJanuary, in_turn, nineteens, sakaMonths}
-use Rattle.calendar_rules.proofs.Bounds.{Bounded, within, year-days, same, gapsAre, stripWithin, bothYears, each-year, hebrew-within, hebrew-bounded}
+use Rattle.calendar_rules.specs.Calendars.{gregorian, islamic_a, islamic_b, bahai, saka, hebrew}
+use Rattle.calendar_rules.specs.Calendars.{thirties_and5, five_at9, thirties_and5or6, from_september, from_october, from_january, in_turn, nineteens, saka_months}
+use Rattle.calendar_rules.proofs.Bounds.{Bounded, within, year_days_lem, same, gaps_are, strip_within, both_years, each_year, hebrew_within, hebrew_bounded}
 
 -- ---- lookup
 
@@ -37,9 +37,9 @@ found P (r ∷ rest) a c K e = go (eqb c r.0) refl e (λ f. found P rest a.1 c K
     go false h e f = f e
 
 -- what holds of each row holds of the calendar that is listed for a number, beside it
-pub found-row : (P : ℕ × Calendar → Type 0) → All P table → {c : ℕ} {K : Calendar} → Listed c K → P (c, K)
+pub found_row : (P : ℕ × Calendar → Type 0) → All P table → {c : ℕ} {K : Calendar} → Listed c K → P (c, K)
 unfolding calendar
-found-row P a {c} {K} l = found P table a c K l.row
+found_row P a {c} {K} l = found P table a c K l.row
 
 -- c is no number of the rows, nor what T says: as an arm of a match for all other numbers has it
 abbrev pub NoneOf : ℕ → Type 0 → List (ℕ × Calendar) → Type 0
@@ -59,98 +59,98 @@ not_listed c n = (not_found c (Unit {0}) table n).1
 
 pub record Sound (c : ℕ) (K : Calendar) : Type 0 where
   pub bounded : Bounded (years K)
-  pub gaps : (i : ℕ) → gapsAre (eqb c 18 && not (leap (i + 1))) (years K i) ≡ true
-  pub strip-within : (i : ℕ) → stripWithin K.strip (years K i) ≡ true
-  pub first-year : mag K.firstYear ≤ 4711
-  pub first-day : K.firstDay ≤ 2394647
-  pub to_last : K.firstDay ≤ last_of K
+  pub gaps : (i : ℕ) → gaps_are (eqb c 18 && not (leap (i + 1))) (years K i) ≡ true
+  pub strip_within : (i : ℕ) → strip_within K.strip (years K i) ≡ true
+  pub first_year_lem : mag K.first_year ≤ 4711
+  pub first_day_lem : K.first_day ≤ 2394647
+  pub to_last : K.first_day ≤ last_of K
 
 -- its first year and its first day, in one computed test
 small : Calendar → Bool
-small K = leb (mag K.firstYear) 4711 && leb K.firstDay 2394647 && leb K.firstDay (last_of K)
+small K = leb (mag K.first_year) 4711 && leb K.first_day 2394647 && leb K.first_day (last_of K)
 
-sound : {c : ℕ} (K : Calendar) → Bounded (years K) → ((i : ℕ) → gapsAre (eqb c 18 && not (leap (i + 1))) (years K i) ≡ true)
-    → ((i : ℕ) → stripWithin K.strip (years K i) ≡ true)
+sound : {c : ℕ} (K : Calendar) → Bounded (years K) → ((i : ℕ) → gaps_are (eqb c 18 && not (leap (i + 1))) (years K i) ≡ true)
+    → ((i : ℕ) → strip_within K.strip (years K i) ≡ true)
     → small K ≡ true
     → Sound c K
 unfolding small
 sound K y g s e =
-    let b = both (leb (mag K.firstYear) 4711 && leb K.firstDay 2394647) (leb K.firstDay (last_of K)) e in
-    let f = both (leb (mag K.firstYear) 4711) (leb K.firstDay 2394647) b.0 in
+    let b = both (leb (mag K.first_year) 4711 && leb K.first_day 2394647) (leb K.first_day (last_of K)) e in
+    let f = both (leb (mag K.first_year) 4711) (leb K.first_day 2394647) b.0 in
     record {
       bounded = y;
       gaps = g;
-      strip-within = s;
-      first-year = leb-true (mag K.firstYear) 4711 f.0;
-      first-day = leb-true K.firstDay 2394647 f.1;
-      to_last = leb-true K.firstDay (last_of K) b.1;
+      strip_within = s;
+      first_year_lem = leb-true (mag K.first_year) 4711 f.0;
+      first_day_lem = leb-true K.first_day 2394647 f.1;
+      to_last = leb-true K.first_day (last_of K) b.1;
     }
 
 -- a list of lengths of a row, in one computed test: every position has days
 whole : Option ℕ → List ℕ → Bool
-whole strip ls = within ls && gapsAre false ls && stripWithin strip ls
+whole strip ls = within ls && gaps_are false ls && strip_within strip ls
 
 -- a row, by its lengths in common and leap years
-by_row : {c : ℕ} (K : Calendar) (positions : Bool → List ℕ) (isLeap : ℤ → Bool) → ((y : ℤ) → K.lengths y ≡ positions (isLeap y))
-    → bothYears (whole K.strip) positions ≡ true → small K ≡ true → eqb c 18 ≡ false
+by_row : {c : ℕ} (K : Calendar) (positions : Bool → List ℕ) (is_leap : ℤ → Bool) → ((y : ℤ) → K.lengths y ≡ positions (is_leap y))
+    → both_years (whole K.strip) positions ≡ true → small K ≡ true → eqb c 18 ≡ false
     → Sound c K
 unfolding whole
-by_row K positions isLeap by e f n = sound K (record { each = λ i. (tested i).0.0 }) (λ i. rw n (tested i).0.1) (λ i. (tested i).1) f
+by_row K positions is_leap by e f n = sound K (record { each = λ i. (tested i).0.0 }) (λ i. rw n (tested i).0.1) (λ i. (tested i).1) f
   where
-    tested : (i : ℕ) → ((within (years K i) ≡ true) × (gapsAre false (years K i) ≡ true)) × (stripWithin K.strip (years K i) ≡ true)
+    tested : (i : ℕ) → ((within (years K i) ≡ true) × (gaps_are false (years K i) ≡ true)) × (strip_within K.strip (years K i) ≡ true)
     tested i =
         let ls = years K i in
-        let b = both (within ls && gapsAre false ls) (stripWithin K.strip ls) (each-year (whole K.strip) K positions isLeap by e i) in
-        (both (within ls) (gapsAre false ls) b.0, b.1)
+        let b = both (within ls && gaps_are false ls) (strip_within K.strip ls) (each_year (whole K.strip) K positions is_leap by e i) in
+        (both (within ls) (gaps_are false ls) b.0, b.1)
 
-rows-sound : All (λ (r : ℕ × Calendar). Sound r.0 r.1) table
-unfolding bothYears whole within gapsAre same every stripWithin total firstFrom small
-rows-sound =
-    by_row egyptian thirtiesAnd5 none (λ y. refl) refl refl refl
-    and by_row armenian thirtiesAnd5 none (λ y. refl) refl refl refl
-    and by_row khwarizmian thirtiesAnd5 none (λ y. refl) refl refl refl
-    and by_row persian fiveAt9 none (λ y. refl) refl refl refl
-    and by_row ethiopian thirtiesAnd5or6 (remainder 3 4) (λ y. refl) refl refl refl
-    and by_row coptic thirtiesAnd5or6 (remainder 3 4) (λ y. refl) refl refl refl
-    and by_row republican thirtiesAnd5or6 (remainder 3 4) (λ y. refl) refl refl refl
-    and by_row macedonian fromSeptember (remainder 3 4) (λ y. refl) refl refl refl
-    and by_row syrian fromOctober (remainder 3 4) (λ y. refl) refl refl refl
-    and by_row julian fromJanuary (remainder 0 4) (λ y. refl) refl refl refl
-    and by_row gregorian fromJanuary gregorianLeap (λ y. refl) refl refl refl
-    and by_row islamicA in_turn islamicLeap (λ y. refl) refl refl refl
-    and by_row islamicB in_turn islamicLeap (λ y. refl) refl refl refl
-    and by_row bahai nineteens bahaiLeap (λ y. refl) refl refl refl
-    and by_row saka sakaMonths sakaLeap (λ y. refl) refl refl refl
-    and sound hebrew hebrew-bounded (λ i. (hebrew-within i).1) (λ i. refl) refl
+rows_sound : All (λ (r : ℕ × Calendar). Sound r.0 r.1) table
+unfolding both_years whole within gaps_are same every strip_within total first_from small
+rows_sound =
+    by_row egyptian thirties_and5 none (λ y. refl) refl refl refl
+    and by_row armenian thirties_and5 none (λ y. refl) refl refl refl
+    and by_row khwarizmian thirties_and5 none (λ y. refl) refl refl refl
+    and by_row persian five_at9 none (λ y. refl) refl refl refl
+    and by_row ethiopian thirties_and5or6 (remainder 3 4) (λ y. refl) refl refl refl
+    and by_row coptic thirties_and5or6 (remainder 3 4) (λ y. refl) refl refl refl
+    and by_row republican thirties_and5or6 (remainder 3 4) (λ y. refl) refl refl refl
+    and by_row macedonian from_september (remainder 3 4) (λ y. refl) refl refl refl
+    and by_row syrian from_october (remainder 3 4) (λ y. refl) refl refl refl
+    and by_row julian from_january (remainder 0 4) (λ y. refl) refl refl refl
+    and by_row gregorian from_january gregorian_leap (λ y. refl) refl refl refl
+    and by_row islamic_a in_turn islamic_leap (λ y. refl) refl refl refl
+    and by_row islamic_b in_turn islamic_leap (λ y. refl) refl refl refl
+    and by_row bahai nineteens bahai_leap (λ y. refl) refl refl refl
+    and by_row saka saka_months saka_leap (λ y. refl) refl refl refl
+    and sound hebrew hebrew_bounded (λ i. (hebrew_within i).1) (λ i. refl) refl
     and tt
 
-pub listed-sound : {c : ℕ} {K : Calendar} → Listed c K → Sound c K
-listed-sound l = found-row (λ (r : ℕ × Calendar). Sound r.0 r.1) rows-sound l
+pub listed_sound : {c : ℕ} {K : Calendar} → Listed c K → Sound c K
+listed_sound l = found_row (λ (r : ℕ × Calendar). Sound r.0 r.1) rows_sound l
 
 -- so counting's theorems are about it
-pub sound-proper : {c : ℕ} {K : Calendar} → Sound c K → Proper K
-sound-proper {c} {K} s = proper K 353 385 15222 (year-days s.bounded) (omega arith) (omega arith) (omega (arith, s.first-year))
+pub sound_proper : {c : ℕ} {K : Calendar} → Sound c K → Proper K
+sound_proper {c} {K} s = proper K 353 385 15222 (year_days_lem s.bounded) (omega arith) (omega arith) (omega (arith, s.first_year_lem))
 
 -- ---- the strips
 
-abbrev pub stripIf : ℕ → Option ℕ
-stripIf c = cond (eqb c 4) (Option.some 9) (cond (eqb c 14) (Option.some 19) (cond (ltb c 8) (Option.some 13) Option.none))
+abbrev pub strip_if : ℕ → Option ℕ
+strip_if c = cond (eqb c 4) (Option.some 9) (cond (eqb c 14) (Option.some 19) (cond (ltb c 8) (Option.some 13) Option.none))
 
-rows-strip : All (λ (r : ℕ × Calendar). r.1.strip ≡ stripIf r.0) table
-rows-strip =
+rows_strip : All (λ (r : ℕ × Calendar). r.1.strip ≡ strip_if r.0) table
+rows_strip =
     (refl, (refl, (refl, (refl, (refl, (refl, (refl, (refl, (refl, (refl, (refl, (refl, (refl, (refl, (refl, (refl, tt))))))))))))))))
 
-pub strip-is : {c : ℕ} {K : Calendar} → Listed c K → K.strip ≡ stripIf c
-strip-is l = found-row (λ (r : ℕ × Calendar). r.1.strip ≡ stripIf r.0) rows-strip l
+pub strip_is : {c : ℕ} {K : Calendar} → Listed c K → K.strip ≡ strip_if c
+strip_is l = found_row (λ (r : ℕ × Calendar). r.1.strip ≡ strip_if r.0) rows_strip l
 
 -- ---- the ends: calendar 7 has one, and no other
 
-abbrev pub endIf : Bool → Option ℕ
-endIf seven = cond seven (Option.some 2380687) Option.none
+abbrev pub end_if : Bool → Option ℕ
+end_if seven = cond seven (Option.some 2380687) Option.none
 
-rows_end : All (λ (r : ℕ × Calendar). r.1.end ≡ endIf (eqb r.0 7)) table
+rows_end : All (λ (r : ℕ × Calendar). r.1.end ≡ end_if (eqb r.0 7)) table
 rows_end =
     (refl, (refl, (refl, (refl, (refl, (refl, (refl, (refl, (refl, (refl, (refl, (refl, (refl, (refl, (refl, (refl, tt))))))))))))))))
 
-pub end_is : {c : ℕ} {K : Calendar} → Listed c K → K.end ≡ endIf (eqb c 7)
-end_is l = found-row (λ (r : ℕ × Calendar). r.1.end ≡ endIf (eqb r.0 7)) rows_end l
+pub end_is : {c : ℕ} {K : Calendar} → Listed c K → K.end ≡ end_if (eqb c 7)
+end_is l = found_row (λ (r : ℕ × Calendar). r.1.end ≡ end_if (eqb r.0 7)) rows_end l

@@ -1,9 +1,11 @@
 // The sixteen calendars: the day of a date, the date of a day, and what a position of a year is. Each is found as plain numbers by a crate of its own
 // (`weekdays`, `dating`, `measuring`); here it becomes an answer.
+#![tactic(auto)]
+
 ghost use Rattle.std.specs.Prelude.{◌≡◌, not, eqb};
-ghost use Rattle.calendar_rules.specs.Answers.{dayAnswerWith, dateAnswer, positionAnswer};
-ghost use Rattle.asking.specs.Steps.{noneNumber, noneThere};
-ghost use Rattle.calendars.specs.Paper.{dayPaper, datePaper, positionPaper};
+ghost use Rattle.calendar_rules.specs.Answers.{day_answer_with, date_answer, position_answer};
+ghost use Rattle.asking.specs.Steps.{none_number, none_there};
+ghost use Rattle.calendars.specs.Paper.{day_paper, date_paper, position_paper};
 
 use refusals::Refusal;
 
@@ -43,7 +45,7 @@ pub enum Position {
 
 // The day of a date. The refusals 1, 2, 3, 4, 17, 5, 13 are tried.
 pub fn date_to_day(calendar: u64, date: Date) -> Day
-    ensures { dayPaper result ≡ dayAnswerWith calendar date.year date.month date.day date.weekday }
+    ensures { day_paper result ≡ day_answer_with calendar date.year date.month date.day date.weekday }
 {
     let r = weekdays::packed_day(calendar, date.year, date.month, date.day, date.weekday);
     match r / 0x1_0000_0000 {
@@ -60,7 +62,7 @@ pub fn date_to_day(calendar: u64, date: Date) -> Day
 
 // A position without days in a year that the calendar has: position 7 of a common Hebrew year is none; other years have it. Any other there is not.
 fn left_out(c: u64, position: u64) -> Position
-    ensures { positionPaper result ≡ noneThere c position 3 }
+    ensures { position_paper result ≡ none_there c position 3 }
 {
     if c == 18 {
         if position == 7 {
@@ -72,7 +74,7 @@ fn left_out(c: u64, position: u64) -> Position
 
 // A position without days.
 fn no_days(c: u64, year: i64, position: u64) -> Position
-    ensures { positionPaper result ≡ noneThere c position (noneNumber c year) }
+    ensures { position_paper result ≡ none_there c position (none_number c year) }
 {
     match listing::no_month(c, year) / 0x1_0000_0000 {
         1 => Position::Refused(Refusal::UnknownCalendar),
@@ -83,7 +85,7 @@ fn no_days(c: u64, year: i64, position: u64) -> Position
 
 // What a position of a year is, and its length. The refusals 1, 2, 3 are tried.
 pub fn position_of(calendar: u64, year: i64, position: u64) -> Position
-    ensures { positionPaper result ≡ positionAnswer calendar year position }
+    ensures { position_paper result ≡ position_answer calendar year position }
 {
     let days = measuring::days(calendar, year, position);
     if days == 0 {
@@ -97,7 +99,7 @@ pub fn position_of(calendar: u64, year: i64, position: u64) -> Position
 
 // The days of a position; 0 where it is none or refused.
 pub fn days_of(answer: Position) -> u64
-    ensures { result ≡ (positionPaper answer).days }
+    ensures { result ≡ (position_paper answer).days }
 {
     match answer {
         Position::Month(n) => n,
@@ -109,7 +111,7 @@ pub fn days_of(answer: Position) -> u64
 
 // Whether there is no such position.
 pub fn is_refused(answer: Position) -> bool
-    ensures { result ≡ not (eqb (positionPaper answer).number 0) }
+    ensures { result ≡ not (eqb (position_paper answer).number 0) }
 {
     match answer {
         Position::Month(_) => false,
@@ -121,8 +123,8 @@ pub fn is_refused(answer: Position) -> bool
 
 // Why a day has no date.
 fn no_date(c: u64, day: u64) -> Dated
-    requires { (dateAnswer c day).month ≡ 0 }
-    ensures { datePaper result ≡ dateAnswer c day }
+    requires { (date_answer c day).month ≡ 0 }
+    ensures { date_paper result ≡ date_answer c day }
 {
     if !listing::is_listed(c) {
         return Dated::Refused(Refusal::UnknownCalendar);
@@ -138,7 +140,7 @@ fn no_date(c: u64, day: u64) -> Dated
 
 // The date of a day. The refusals 1, 5, 17 are tried.
 pub fn day_to_date(calendar: u64, day: u64) -> Dated
-    ensures { datePaper result ≡ dateAnswer calendar day }
+    ensures { date_paper result ≡ date_answer calendar day }
 {
     let p = dating::place(calendar, day);
     if p.month == 0 {

@@ -9,25 +9,25 @@ use lib.ListN.{length, take, length-take}
 use lib.Seq.{take_all}
 use borrow.Author.Tests.{ltb-true, ltb-false}
 use Rattle.carrying.specs.declared.Unfinished.{Unfinished}
-use Rattle.carrying.specs.Kept.{most, keptOf}
+use Rattle.carrying.specs.Kept.{most, kept_of}
 
 module _ (u : Unfinished) where
-  pub kept-few : length u.bytes ≡ 17 → length (keptOf u) ≤ most
-  unfolding keptOf
-  kept-few h = omega (arith, length-take u.count u.bytes)
+  pub kept_few : length u.bytes ≡ 17 → length (kept_of u) ≤ most
+  unfolding kept_of
+  kept_few h = omega (arith, length-take u.count u.bytes)
 
-  pub none_kept : u.count ≡ 0 → keptOf u ≡ []
-  unfolding keptOf
+  pub none_kept : u.count ≡ 0 → kept_of u ≡ []
+  unfolding kept_of
   none_kept h = rw h
 
-  pub some-kept : length u.bytes ≡ 17 → (u.count ≡ 0 → ⊥) → 0 < length (keptOf u)
-  unfolding keptOf
-  some-kept h n = omega (arith, length-take u.count u.bytes)
+  pub some_kept : length u.bytes ≡ 17 → (u.count ≡ 0 → ⊥) → 0 < length (kept_of u)
+  unfolding kept_of
+  some_kept h n = omega (arith, length-take u.count u.bytes)
 
   -- the array has no more than 17 bytes
-  pub kept-bytes : (n : ℕ) → length u.bytes ≡ 17 → n ≡ min u.count 17 → take n u.bytes ≡ keptOf u
-  unfolding keptOf
-  kept-bytes n h e = go (ltb u.count 17) refl
+  pub kept_bytes : (n : ℕ) → length u.bytes ≡ 17 → n ≡ min u.count 17 → take n u.bytes ≡ kept_of u
+  unfolding kept_of
+  kept_bytes n h e = go (ltb u.count 17) refl
     where
       go : (c : Bool) → ltb u.count 17 ≡ c → take n u.bytes ≡ take u.count u.bytes
       go true t = let k : n ≡ u.count = omega (arith, ltb-true u.count 17 t) in ap (λ (i : ℕ). take i u.bytes) k

@@ -9,15 +9,15 @@ abbrev pub most : ℕ
 most = 17
 
 -- the bytes that a state keeps of the unfinished line
-unfoldable pub keptOf : Unfinished → List ℕ
-keptOf u = take u.count u.bytes
+unfoldable pub kept_of : Unfinished → List ℕ
+kept_of u = take u.count u.bytes
 
 -- where the first line of some bytes ends: the place of their first newline, or their length where they have none
-unfoldable pub lineEnd : List ℕ → ℕ
-lineEnd [] = 0
-lineEnd (b ∷ s) = cond (eqb b newline) 0 (suc (lineEnd s))
+unfoldable pub line_end : List ℕ → ℕ
+line_end [] = 0
+line_end (b ∷ s) = cond (eqb b newline) 0 (suc (line_end s))
 
 -- The line u with what some bytes have of it. What is kept is said: the bytes past the count mean nothing, and nothing reads them.
 pub record GoneOn (u : Unfinished) (bytes : List ℕ) (r : Part) : Type 0 where
-  pub end : r.end ≡ lineEnd bytes
-  pub line : keptOf r.line ≡ take most (keptOf u ++ take r.end bytes)
+  pub end : r.end ≡ line_end bytes
+  pub line : kept_of r.line ≡ take most (kept_of u ++ take r.end bytes)

@@ -1,7 +1,9 @@
 // A line that the pieces of an input cut: what is kept of it from one piece to the next, and how it goes on.
 // `proofs/Claims.antt` is the page to read first.
+#![tactic(auto)]
+
 ghost use Rattle.std.specs.Prelude.{◌≡◌, [], ◌++◌, take};
-ghost use Rattle.carrying.specs.Kept.{most, keptOf, lineEnd, GoneOn};
+ghost use Rattle.carrying.specs.Kept.{most, kept_of, line_end, GoneOn};
 
 // What is kept of a line that the pieces so far have not finished: its first bytes, one more than a frame has.
 #[derive(Drop)]
@@ -13,7 +15,7 @@ pub struct Unfinished {
 impl Unfinished {
     // Before the first piece.
     pub fn new() -> Self
-        ensures { keptOf result ≡ [] }
+        ensures { kept_of result ≡ [] }
     {
         Unfinished {
             bytes: [0u8; 17],
@@ -24,7 +26,7 @@ impl Unfinished {
 
 // The place of the first newline, or the length.
 fn line_end(bytes: &[u8]) -> usize
-    ensures { result ≡ lineEnd bytes.now }
+    ensures { result ≡ line_end bytes.now }
 {
     let mut i = 0;
     while i < bytes.len() {
@@ -38,7 +40,7 @@ fn line_end(bytes: &[u8]) -> usize
 
 // The line with more bytes.
 fn keep(line: Unfinished, more: &[u8]) -> Unfinished
-    ensures { keptOf result ≡ take most (keptOf line ++ more.now) }
+    ensures { kept_of result ≡ take most (kept_of line ++ more.now) }
 {
     let mut bytes = line.bytes;
     let mut count = line.count;

@@ -1,4 +1,6 @@
 // Codes of month lengths and the lines that generate them, as code holds them, and the limits of a code.
+#![tactic(auto)]
+
 ghost use Rattle.std.specs.Prelude.{◌≡◌};
 ghost use Rattle.lines.specs.BandTest.{within};
 

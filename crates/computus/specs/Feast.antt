@@ -1,7 +1,7 @@
 -- What an Easter is (docs/RULES.md, "Easter"): a date of its season, one that its calendar has, and a Sunday by the calendar's own date to day.
 use Rattle.std.specs.Prelude.{◌≡◌, ◌⊎◌, ℕ, ◌≤◌, ℤ, pos}
-use Rattle.counting.specs.Answers.{weekdayOf}
-use Rattle.calendar_rules.specs.Answers.{dayAnswer}
+use Rattle.counting.specs.Answers.{weekday_of}
+use Rattle.calendar_rules.specs.Answers.{day_answer}
 use Rattle.computus.specs.Rule.{EasterAnswer}
 
 -- the rules' years of Easter
@@ -17,5 +17,5 @@ InSpring D = ((D.month ≡ 3) × (22 ≤ D.day) × (D.day ≤ 31)) ⊎ ((D.month
 pub record Feast (c : ℕ) (year : ℤ) (D : EasterAnswer) : Type 0 where
   pub done : D.number ≡ 0
   pub season : InSpring D
-  pub good : (dayAnswer c year D.month D.day).number ≡ 0
-  pub weekday : weekdayOf (dayAnswer c year D.month D.day).day ≡ 7
+  pub good : (day_answer c year D.month D.day).number ≡ 0
+  pub weekday : weekday_of (day_answer c year D.month D.day).day ≡ 7

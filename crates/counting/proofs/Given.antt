@@ -11,31 +11,31 @@ use lib.IntN.{ℤ}
 use lib.ListN.{length}
 use lib.Signed.{lt_z}
 use borrow.Author.Tests.{eqb-true, eqb-false, ltb-true, ltb-false}
-use Rattle.counting.specs.Answers.{Calendar, DayAnswer, DateAnswer, lastDay, lastYear, yearOut, lengthIn, monthZero, abovePositions}
-use Rattle.counting.specs.Answers.{noDaysThatYear, noMonth, noDay, dayOut, after, ended, dayNumber, noDayAnswer, noDateAnswer, dayFor, dayWith, dateFor}
+use Rattle.counting.specs.Answers.{Calendar, DayAnswer, DateAnswer, last_day, last_year, year_out, length_in, month_zero, above_positions}
+use Rattle.counting.specs.Answers.{no_days_that_year, no_month, no_day, day_out, after, ended, day_number, no_day_answer, no_date_answer, day_for, day_with, date_for}
 use Rattle.counting.specs.Answers.{FitsDay}
-use Rattle.counting.specs.Positions.{PositionAnswer, noPosition, noPositionAnswer, positionFor}
-use Rattle.counting.specs.Given.{Given, dateOrder, dayOrder, positionOrder, OfYear, OfDate, OfDay, OfPosition}
-use Rattle.counting.specs.Given.OfYear.{below-first, above-20000}
-use Rattle.counting.specs.Given.OfDate.{its-year, month-0, above-positions, no-days, day-0, beyond-month, its-day, other-weekday}
-use Rattle.counting.specs.Given.OfPosition.{its-year as of-its-year, position-0, above-positions as above-all}
-use Rattle.counting.specs.Given.OfDay.{above-5373484, before-first, after-end}
+use Rattle.counting.specs.Positions.{PositionAnswer, no_position, no_position_answer, position_for}
+use Rattle.counting.specs.Given.{Given, date_order, day_order, position_order, OfYear, OfDate, OfDay, OfPosition}
+use Rattle.counting.specs.Given.OfYear.{below_first, above_20000}
+use Rattle.counting.specs.Given.OfDate.{its_year, month_0, beyond_positions, no_days, day_0, beyond_month, its_day, other_weekday}
+use Rattle.counting.specs.Given.OfPosition.{its_year as of-its-year, position_0, beyond_positions as above-all}
+use Rattle.counting.specs.Given.OfDay.{above_5373484, before_first, after_end}
 use Rattle.counting.specs.Given.Given.{done, first, later}
 use Rattle.basics.specs.Every.{All}
 use Rattle.basics.proofs.Cases.{neither}
 use Rattle.counting.proofs.Weekdays as W
 
 -- one number is given,
-one-given : {A : ℕ → Type 0} {order : List ℕ} {j k : ℕ} → Given A order j → Given A order k → j ≡ k
-one-given done done = refl
-one-given (first a) (first b) = refl
-one-given (first a) (later n g) = absurd (n a)
-one-given (later n g) (first a) = absurd (n a)
-one-given (later n g) (later m h) = one-given g h
+one_given : {A : ℕ → Type 0} {order : List ℕ} {j k : ℕ} → Given A order j → Given A order k → j ≡ k
+one_given done done = refl
+one_given (first a) (first b) = refl
+one_given (first a) (later n g) = absurd (n a)
+one_given (later n g) (first a) = absurd (n a)
+one_given (later n g) (later m h) = one_given g h
 
 -- so what is given is given exactly
 pub exactly : {A : ℕ → Type 0} {order : List ℕ} {n : ℕ} → Given A order n → (k : ℕ) → (n ≡ k) ↔ Given A order k
-exactly {A} {order} g k = ((λ e. subst (Given A order) e g), λ h. one-given g h)
+exactly {A} {order} g k = ((λ e. subst (Given A order) e g), λ h. one_given g h)
 
 -- it is 0 or one of the order
 pub one_of : (P : ℕ → Type 0) {A : ℕ → Type 0} {order : List ℕ} {k : ℕ} → P 0 → All P order → Given A order k → P k
@@ -82,205 +82,205 @@ chosen number false refusal rest n e = absurd (n e)
 -- ---- day to date
 
 -- after an end, where there is one
-pub is-after : (o : Option ℕ) (n : ℕ) → after o n ≡ true → (e : ℕ) × (o ≡ Option.some e) × (e < n)
-is-after Option.none n h = absurd (true≢false (sym h))
-is-after (Option.some e) n h = (e, refl, ltb-true e n h)
+pub is_after : (o : Option ℕ) (n : ℕ) → after o n ≡ true → (e : ℕ) × (o ≡ Option.some e) × (e < n)
+is_after Option.none n h = absurd (true≢false (sym h))
+is_after (Option.some e) n h = (e, refl, ltb-true e n h)
 
 pub not_after : (o : Option ℕ) (n : ℕ) → after o n ≡ false → (e : ℕ) → o ≡ Option.some e → n ≤ e
 not_after Option.none n h e f = let z : ◌≡◌ {A = ℕ} 0 1 = cc in absurd (omega arith)
 not_after (Option.some x) n h e f = let g : x ≡ e = cc in omega (arith, ltb-false x n h)
 
 module _ (K : Calendar) (n : ℕ) where
-  from-5 : {j : ℕ} → OfDay K n j → 5 ≤ j
-  from-5 (above-5373484 f) = omega arith
-  from-5 (before-first f) = omega arith
-  from-5 (after-end e f) = omega arith
+  from_5 : {j : ℕ} → OfDay K n j → 5 ≤ j
+  from_5 (above_5373484 f) = omega arith
+  from_5 (before_first f) = omega arith
+  from_5 (after_end e f) = omega arith
 
-  not-13 : {j : ℕ} → OfDay K n j → ¬ (j ≡ 13)
-  not-13 (above-5373484 f) e = omega arith
-  not-13 (before-first f) e = omega arith
-  not-13 (after-end e f) g = omega arith
+  not_13 : {j : ℕ} → OfDay K n j → ¬ (j ≡ 13)
+  not_13 (above_5373484 f) e = omega arith
+  not_13 (before_first f) e = omega arith
+  not_13 (after_end e f) g = omega arith
 
   -- so not 1
-  pub no-1 : ¬ OfDay K n 1
-  no-1 a = omega (arith, from-5 a)
+  pub no_1 : ¬ OfDay K n 1
+  no_1 a = omega (arith, from_5 a)
 
   late : Bool
-  late = ltb lastDay n
+  late = ltb last_day n
 
   early : Bool
-  early = ltb n K.firstDay
+  early = ltb n K.first_day
 
-  is-5 : dayOut K n ≡ true → OfDay K n 5
+  is_5 : day_out K n ≡ true → OfDay K n 5
   unfolding late early
-  is-5 e = either late early e (λ f. above-5373484 (omega (arith, ltb-true lastDay n f))) (λ f. before-first (ltb-true n K.firstDay f))
+  is_5 e = either late early e (λ f. above_5373484 (omega (arith, ltb-true last_day n f))) (λ f. before_first (ltb-true n K.first_day f))
 
-  not-5 : dayOut K n ≡ false → ¬ OfDay K n 5
+  not_5 : day_out K n ≡ false → ¬ OfDay K n 5
   unfolding late early
-  not-5 e (above-5373484 f) = omega (arith, ltb-false lastDay n (neither late early e).0)
-  not-5 e (before-first f) = omega (arith, ltb-false n K.firstDay (neither late early e).1)
+  not_5 e (above_5373484 f) = omega (arith, ltb-false last_day n (neither late early e).0)
+  not_5 e (before_first f) = omega (arith, ltb-false n K.first_day (neither late early e).1)
 
-  is-17 : ended K n ≡ true → OfDay K n 17
-  is-17 t = let a = is-after K.end n t in after-end a.1 a.2
+  is_17 : ended K n ≡ true → OfDay K n 17
+  is_17 t = let a = is_after K.end n t in after_end a.1 a.2
 
-  not-17 : ended K n ≡ false → ¬ OfDay K n 17
-  not-17 t (after-end {e} f h) = omega (arith, not_after K.end n t e f)
+  not_17 : ended K n ≡ false → ¬ OfDay K n 17
+  not_17 t (after_end {e} f h) = omega (arith, not_after K.end n t e f)
 
-  pub date-given : Given (OfDay K n) dayOrder (dateFor K n).number
-  unfolding dateFor
-  date-given =
+  pub date_given : Given (OfDay K n) day_order (date_for K n).number
+  unfolding date_for
+  date_given =
       let try = tried (λ (a : DateAnswer). a.number) (OfDay K n) in
-      try _ (dayOut K n) (noDateAnswer 5) _ is-5 not-5
-      (try _ (ended K n) (noDateAnswer 17) _ is-17 not-17 done)
+      try _ (day_out K n) (no_date_answer 5) _ is_5 not_5
+      (try _ (ended K n) (no_date_answer 17) _ is_17 not_17 done)
 
 -- ---- a year, a position of it
 
 module _ (K : Calendar) (y : ℤ) where
-  only-2 : {k : ℕ} → OfYear K y k → k ≡ 2
-  only-2 (below-first f) = refl
-  only-2 (above-20000 f) = refl
+  only_2 : {k : ℕ} → OfYear K y k → k ≡ 2
+  only_2 (below_first f) = refl
+  only_2 (above_20000 f) = refl
 
-  is-2 : yearOut K y ≡ true → OfYear K y 2
-  is-2 e = either (lt_z y K.firstYear) (lt_z lastYear y) e below-first above-20000
+  is_2 : year_out K y ≡ true → OfYear K y 2
+  is_2 e = either (lt_z y K.first_year) (lt_z last_year y) e below_first above_20000
 
-  not-2 : yearOut K y ≡ false → ¬ OfYear K y 2
-  not-2 e (below-first f) = clash f (neither (lt_z y K.firstYear) (lt_z lastYear y) e).0
-  not-2 e (above-20000 f) = clash f (neither (lt_z y K.firstYear) (lt_z lastYear y) e).1
+  not_2 : year_out K y ≡ false → ¬ OfYear K y 2
+  not_2 e (below_first f) = clash f (neither (lt_z y K.first_year) (lt_z last_year y) e).0
+  not_2 e (above_20000 f) = clash f (neither (lt_z y K.first_year) (lt_z last_year y) e).1
 
 module _ (K : Calendar) (y : ℤ) (m : ℕ) where
-  from-2 : {k : ℕ} → OfPosition K y m k → 2 ≤ k
-  from-2 (of-its-year a) = omega (arith, only-2 K y a)
-  from-2 (position-0 f) = omega arith
-  from-2 (above-all f) = omega arith
+  from_2 : {k : ℕ} → OfPosition K y m k → 2 ≤ k
+  from_2 (of-its-year a) = omega (arith, only_2 K y a)
+  from_2 (position_0 f) = omega arith
+  from_2 (above-all f) = omega arith
 
   -- so 1 does not apply
-  pub position-not-1 : ¬ OfPosition K y m 1
-  position-not-1 a = omega (arith, from-2 a)
+  pub position_not_1 : ¬ OfPosition K y m 1
+  position_not_1 a = omega (arith, from_2 a)
 
-  position-not-2 : yearOut K y ≡ false → ¬ OfPosition K y m 2
-  position-not-2 e (of-its-year a) = not-2 K y e a
+  position_not_2 : year_out K y ≡ false → ¬ OfPosition K y m 2
+  position_not_2 e (of-its-year a) = not_2 K y e a
 
-  position-is-3 : noPosition K y m ≡ true → OfPosition K y m 3
-  position-is-3 e =
-      either (monthZero m) (abovePositions K y m) e (λ f. position-0 (eqb-true m 0 f)) (λ f. above-all (ltb-true (length (K.lengths y)) m f))
+  position_is_3 : no_position K y m ≡ true → OfPosition K y m 3
+  position_is_3 e =
+      either (month_zero m) (above_positions K y m) e (λ f. position_0 (eqb-true m 0 f)) (λ f. above-all (ltb-true (length (K.lengths y)) m f))
 
-  position-not-3 : noPosition K y m ≡ false → ¬ OfPosition K y m 3
-  position-not-3 e (of-its-year a) = omega (arith, only-2 K y a)
-  position-not-3 e (position-0 f) = eqb-false m 0 (neither (monthZero m) (abovePositions K y m) e).0 f
-  position-not-3 e (above-all f) = omega (arith, ltb-false (length (K.lengths y)) m (neither (monthZero m) (abovePositions K y m) e).1)
+  position_not_3 : no_position K y m ≡ false → ¬ OfPosition K y m 3
+  position_not_3 e (of-its-year a) = omega (arith, only_2 K y a)
+  position_not_3 e (position_0 f) = eqb-false m 0 (neither (month_zero m) (above_positions K y m) e).0 f
+  position_not_3 e (above-all f) = omega (arith, ltb-false (length (K.lengths y)) m (neither (month_zero m) (above_positions K y m) e).1)
 
-  pub position-given : Given (OfPosition K y m) positionOrder (positionFor K y m).number
-  unfolding positionFor
-  position-given =
+  pub position_given : Given (OfPosition K y m) position_order (position_for K y m).number
+  unfolding position_for
+  position_given =
       let try = tried (λ (x : PositionAnswer). x.number) (OfPosition K y m) in
-      try _ (yearOut K y) (noPositionAnswer 2) _ (λ e. of-its-year (is-2 K y e)) position-not-2
-      (try _ (noPosition K y m) (noPositionAnswer 3) _ position-is-3 position-not-3 done)
+      try _ (year_out K y) (no_position_answer 2) _ (λ e. of-its-year (is_2 K y e)) position_not_2
+      (try _ (no_position K y m) (no_position_answer 3) _ position_is_3 position_not_3 done)
 
 -- ---- date to day
 
 -- of a date that is given a day: no test holds, and the day is its number
-module _ (K : Calendar) (y : ℤ) (m d : ℕ) (e : (dayFor K y m d).number ≡ 0) where
-  pub none-applies : (yearOut K y ≡ false) × (noMonth K y m ≡ false) × (noDay K y m d ≡ false) × (ended K (dayNumber K y m d) ≡ false)
-      × (dayOut K (dayNumber K y m d) ≡ false)
-  unfolding dayFor
-  none-applies =
-      let n = dayNumber K y m d in
+module _ (K : Calendar) (y : ℤ) (m d : ℕ) (e : (day_for K y m d).number ≡ 0) where
+  pub none_applies : (year_out K y ≡ false) × (no_month K y m ≡ false) × (no_day K y m d ≡ false) × (ended K (day_number K y m d) ≡ false)
+      × (day_out K (day_number K y m d) ≡ false)
+  unfolding day_for
+  none_applies =
+      let n = day_number K y m d in
       let through = passed (λ (a : DayAnswer). a.number) in
-      let q = through (yearOut K y) (noDayAnswer 2) _ (omega arith) e in
-      let r = through (noMonth K y m) (noDayAnswer 3) _ (omega arith) q.1 in
-      let s = through (noDay K y m d) (noDayAnswer 4) _ (omega arith) r.1 in
-      let t = through (ended K n) (noDayAnswer 17) _ (omega arith) s.1 in
-      let u = through (dayOut K n) (noDayAnswer 5) _ (omega arith) t.1 in
+      let q = through (year_out K y) (no_day_answer 2) _ (omega arith) e in
+      let r = through (no_month K y m) (no_day_answer 3) _ (omega arith) q.1 in
+      let s = through (no_day K y m d) (no_day_answer 4) _ (omega arith) r.1 in
+      let t = through (ended K n) (no_day_answer 17) _ (omega arith) s.1 in
+      let u = through (day_out K n) (no_day_answer 5) _ (omega arith) t.1 in
       (q.0, r.0, s.0, t.0, u.0)
 
-  pub day-is : (dayFor K y m d).day ≡ dayNumber K y m d
-  unfolding dayFor
-  day-is = let t = none-applies in rw (t.0, t.1, t.2, t.3, t.4) refl
+  pub day_is : (day_for K y m d).day ≡ day_number K y m d
+  unfolding day_for
+  day_is = let t = none_applies in rw (t.0, t.1, t.2, t.3, t.4) refl
 
 module _ (K : Calendar) (y : ℤ) (m d w : ℕ) where
   -- each test holds exactly where its number applies
-  date-not-2 : yearOut K y ≡ false → ¬ OfDate K y m d w 2
-  date-not-2 e (its-year a) = not-2 K y e a
-  date-not-2 e (its-day a) = omega (arith, from-5 K (dayNumber K y m d) a)
+  date_not_2 : year_out K y ≡ false → ¬ OfDate K y m d w 2
+  date_not_2 e (its_year a) = not_2 K y e a
+  date_not_2 e (its_day a) = omega (arith, from_5 K (day_number K y m d) a)
 
-  is-3 : noMonth K y m ≡ true → OfDate K y m d w 3
-  is-3 e = either (noPosition K y m) (noDaysThatYear K y m) e (λ f. at (position-is-3 K y m f)) (λ f. no-days (eqb-true (lengthIn K y m) 0 f))
+  is_3 : no_month K y m ≡ true → OfDate K y m d w 3
+  is_3 e = either (no_position K y m) (no_days_that_year K y m) e (λ f. at (position_is_3 K y m f)) (λ f. no_days (eqb-true (length_in K y m) 0 f))
     where
       at : OfPosition K y m 3 → OfDate K y m d w 3
-      at (of-its-year a) = its-year a
-      at (position-0 f) = month-0 f
-      at (above-all f) = above-positions f
+      at (of-its-year a) = its_year a
+      at (position_0 f) = month_0 f
+      at (above-all f) = beyond_positions f
 
-  not-3 : noMonth K y m ≡ false → ¬ OfDate K y m d w 3
-  not-3 e a = let M = neither (noPosition K y m) (noDaysThatYear K y m) e in go (position-not-3 K y m M.0) (eqb-false (lengthIn K y m) 0 M.1) a
+  not_3 : no_month K y m ≡ false → ¬ OfDate K y m d w 3
+  not_3 e a = let M = neither (no_position K y m) (no_days_that_year K y m) e in go (position_not_3 K y m M.0) (eqb-false (length_in K y m) 0 M.1) a
     where
-      go : ¬ OfPosition K y m 3 → ¬ (lengthIn K y m ≡ 0) → ¬ OfDate K y m d w 3
-      go u w (its-year a) = u (of-its-year a)
-      go u w (month-0 f) = u (position-0 f)
-      go u w (above-positions f) = u (above-all f)
-      go u w (no-days f) = w f
-      go u w (its-day a) = omega (arith, from-5 K (dayNumber K y m d) a)
+      go : ¬ OfPosition K y m 3 → ¬ (length_in K y m ≡ 0) → ¬ OfDate K y m d w 3
+      go u w (its_year a) = u (of-its-year a)
+      go u w (month_0 f) = u (position_0 f)
+      go u w (beyond_positions f) = u (above-all f)
+      go u w (no_days f) = w f
+      go u w (its_day a) = omega (arith, from_5 K (day_number K y m d) a)
 
-  is-4 : noDay K y m d ≡ true → OfDate K y m d w 4
-  is-4 e = either (eqb d 0) (ltb (lengthIn K y m) d) e (λ f. day-0 (eqb-true d 0 f)) (λ f. beyond-month (ltb-true (lengthIn K y m) d f))
+  is_4 : no_day K y m d ≡ true → OfDate K y m d w 4
+  is_4 e = either (eqb d 0) (ltb (length_in K y m) d) e (λ f. day_0 (eqb-true d 0 f)) (λ f. beyond_month (ltb-true (length_in K y m) d f))
 
-  not-4 : noDay K y m d ≡ false → ¬ OfDate K y m d w 4
-  not-4 e (its-year a) = omega (arith, only-2 K y a)
-  not-4 e (day-0 f) = eqb-false d 0 (neither (eqb d 0) (ltb (lengthIn K y m) d) e).0 f
-  not-4 e (beyond-month f) = omega (arith, ltb-false (lengthIn K y m) d (neither (eqb d 0) (ltb (lengthIn K y m) d) e).1)
-  not-4 e (its-day a) = omega (arith, from-5 K (dayNumber K y m d) a)
+  not_4 : no_day K y m d ≡ false → ¬ OfDate K y m d w 4
+  not_4 e (its_year a) = omega (arith, only_2 K y a)
+  not_4 e (day_0 f) = eqb-false d 0 (neither (eqb d 0) (ltb (length_in K y m) d) e).0 f
+  not_4 e (beyond_month f) = omega (arith, ltb-false (length_in K y m) d (neither (eqb d 0) (ltb (length_in K y m) d) e).1)
+  not_4 e (its_day a) = omega (arith, from_5 K (day_number K y m d) a)
 
   -- 5 and 17 only as to its day
-  of-day : {k : ℕ} → 5 ≤ k → ¬ (k ≡ 13) → OfDate K y m d w k → OfDay K (dayNumber K y m d) k
-  of-day h n (its-year a) = absurd (omega (arith, only-2 K y a))
-  of-day h n (month-0 f) = absurd (omega arith)
-  of-day h n (above-positions f) = absurd (omega arith)
-  of-day h n (no-days f) = absurd (omega arith)
-  of-day h n (day-0 f) = absurd (omega arith)
-  of-day h n (beyond-month f) = absurd (omega arith)
-  of-day h n (its-day a) = a
-  of-day h n (other-weekday f) = absurd (n refl)
+  of_day : {k : ℕ} → 5 ≤ k → ¬ (k ≡ 13) → OfDate K y m d w k → OfDay K (day_number K y m d) k
+  of_day h n (its_year a) = absurd (omega (arith, only_2 K y a))
+  of_day h n (month_0 f) = absurd (omega arith)
+  of_day h n (beyond_positions f) = absurd (omega arith)
+  of_day h n (no_days f) = absurd (omega arith)
+  of_day h n (day_0 f) = absurd (omega arith)
+  of_day h n (beyond_month f) = absurd (omega arith)
+  of_day h n (its_day a) = a
+  of_day h n (other_weekday f) = absurd (n refl)
 
   -- 1 does not apply
-  pub not-1 : ¬ OfDate K y m d w 1
-  not-1 (its-year a) = omega (arith, only-2 K y a)
-  not-1 (its-day a) = omega (arith, from-5 K (dayNumber K y m d) a)
+  pub not_1 : ¬ OfDate K y m d w 1
+  not_1 (its_year a) = omega (arith, only_2 K y a)
+  not_1 (its_day a) = omega (arith, from_5 K (day_number K y m d) a)
 
   -- the numbers before 13
-  rest-given : Given (OfDate K y m d w) (2 ∷ 3 ∷ 4 ∷ 17 ∷ 5 ∷ []) (dayFor K y m d).number
-  unfolding dayFor
-  rest-given =
-      let n = dayNumber K y m d in
+  rest_given : Given (OfDate K y m d w) (2 ∷ 3 ∷ 4 ∷ 17 ∷ 5 ∷ []) (day_for K y m d).number
+  unfolding day_for
+  rest_given =
+      let n = day_number K y m d in
       let try = tried (λ (a : DayAnswer). a.number) (OfDate K y m d w) in
-      try _ (yearOut K y) (noDayAnswer 2) _ (λ e. its-year (is-2 K y e)) date-not-2
-      (try _ (noMonth K y m) (noDayAnswer 3) _ is-3 not-3
-      (try _ (noDay K y m d) (noDayAnswer 4) _ is-4 not-4
-      (try _ (ended K n) (noDayAnswer 17) _ (λ e. its-day (is-17 K n e)) (λ e a. not-17 K n e (of-day (omega arith) (omega arith) a))
-      (try _ (dayOut K n) (noDayAnswer 5) _ (λ e. its-day (is-5 K n e)) (λ e a. not-5 K n e (of-day (omega arith) (omega arith) a)) done))))
+      try _ (year_out K y) (no_day_answer 2) _ (λ e. its_year (is_2 K y e)) date_not_2
+      (try _ (no_month K y m) (no_day_answer 3) _ is_3 not_3
+      (try _ (no_day K y m d) (no_day_answer 4) _ is_4 not_4
+      (try _ (ended K n) (no_day_answer 17) _ (λ e. its_day (is_17 K n e)) (λ e a. not_17 K n e (of_day (omega arith) (omega arith) a))
+      (try _ (day_out K n) (no_day_answer 5) _ (λ e. its_day (is_5 K n e)) (λ e a. not_5 K n e (of_day (omega arith) (omega arith) a)) done))))
 
   -- 13 is not one of them
-  pub rest-not-13 : ¬ ((dayFor K y m d).number ≡ 13)
-  rest-not-13 =
+  pub rest_not_13 : ¬ ((day_for K y m d).number ≡ 13)
+  rest_not_13 =
       one_of (λ (k : ℕ). ¬ (k ≡ 13)) (λ e. omega arith)
-      ((λ e. omega arith), ((λ e. omega arith), ((λ e. omega arith), ((λ e. omega arith), ((λ e. omega arith), tt))))) rest-given
+      ((λ e. omega arith), ((λ e. omega arith), ((λ e. omega arith), ((λ e. omega arith), ((λ e. omega arith), tt))))) rest_given
 
   -- it applies exactly where the weekday does not fit
-  date-not-13 : FitsDay w (dayNumber K y m d) → ¬ OfDate K y m d w 13
-  date-not-13 f (its-year a) = omega (arith, only-2 K y a)
-  date-not-13 f (its-day a) = not-13 K (dayNumber K y m d) a refl
-  date-not-13 f (other-weekday n) = n f
+  date_not_13 : FitsDay w (day_number K y m d) → ¬ OfDate K y m d w 13
+  date_not_13 f (its_year a) = omega (arith, only_2 K y a)
+  date_not_13 f (its_day a) = not_13 K (day_number K y m d) a refl
+  date_not_13 f (other_weekday n) = n f
 
-  pub day-given : Given (OfDate K y m d w) dateOrder (dayWith K y m d w).number
-  day-given =
-      let x = dayFor K y m d in
-      appended ((λ e. omega arith), ((λ e. omega arith), ((λ e. omega arith), ((λ e. omega arith), ((λ e. omega arith), tt))))) rest-given
-      (λ e. weekday (day-is K y m d e) (W.tried w x) e)
+  pub day_given : Given (OfDate K y m d w) date_order (day_with K y m d w).number
+  day_given =
+      let x = day_for K y m d in
+      appended ((λ e. omega arith), ((λ e. omega arith), ((λ e. omega arith), ((λ e. omega arith), ((λ e. omega arith), tt))))) rest_given
+      (λ e. weekday (day_is K y m d e) (W.tried w x) e)
       (λ n. ap (λ (a : DayAnswer). a.number) (W.refused w x n))
     where
-      weekday : (dayFor K y m d).day ≡ dayNumber K y m d
-          → ((dayWith K y m d w ≡ noDayAnswer 13) × ((dayFor K y m d).number ≡ 0) × ¬ FitsDay w (dayFor K y m d).day)
-          ⊎ ((dayWith K y m d w ≡ dayFor K y m d) × ((dayFor K y m d).number ≡ 0 → FitsDay w (dayFor K y m d).day))
-          → (dayFor K y m d).number ≡ 0
-          → Given (OfDate K y m d w) (13 ∷ []) (dayWith K y m d w).number
-      weekday g (inl t) e = rw t.0 (first (other-weekday (λ f. t.2 (rw g f))))
-      weekday g (inr t) e = rw (t.0, e) (later (date-not-13 (rw g at (t.1 e))) done)
+      weekday : (day_for K y m d).day ≡ day_number K y m d
+          → ((day_with K y m d w ≡ no_day_answer 13) × ((day_for K y m d).number ≡ 0) × ¬ FitsDay w (day_for K y m d).day)
+          ⊎ ((day_with K y m d w ≡ day_for K y m d) × ((day_for K y m d).number ≡ 0 → FitsDay w (day_for K y m d).day))
+          → (day_for K y m d).number ≡ 0
+          → Given (OfDate K y m d w) (13 ∷ []) (day_with K y m d w).number
+      weekday g (inl t) e = rw t.0 (first (other_weekday (λ f. t.2 (rw g f))))
+      weekday g (inr t) e = rw (t.0, e) (later (date_not_13 (rw g at (t.1 e))) done)

@@ -2,7 +2,7 @@
 -- tried. (1, a number that is no calendar's, is tried where calendars are looked up by number.)
 use Rattle.std.specs.Prelude.{ℕ, zero, suc, ◌+◌, ◌≤◌, ◌≡◌, Bool, false, cond, ◌||◌, ◌⊎◌, eqb, ℤ}
 use Rattle.std.proofs.Math.Option.{Option}
-use Rattle.counting.specs.Answers.{Calendar, yearOut, lengthIn, monthZero, abovePositions, noDaysThatYear}
+use Rattle.counting.specs.Answers.{Calendar, year_out, length_in, month_zero, above_positions, no_days_that_year}
 
 pub data Kind : Type 0 where
   month : Kind
@@ -15,25 +15,25 @@ pub record PositionAnswer : Type 0 where
   pub days : ℕ
 
 -- 3: position 0 or above the positions. (One of no days that year is none here; date to day refuses its dates with 3)
-abbrev pub noPosition : Calendar → ℤ → ℕ → Bool
-noPosition K y m = monthZero m || abovePositions K y m
+abbrev pub no_position : Calendar → ℤ → ℕ → Bool
+no_position K y m = month_zero m || above_positions K y m
 
 -- position m is the strip
-abbrev pub isStrip : Option ℕ → ℕ → Bool
-isStrip Option.none m = false
-isStrip (Option.some p) m = eqb m p
+abbrev pub is_strip : Option ℕ → ℕ → Bool
+is_strip Option.none m = false
+is_strip (Option.some p) m = eqb m p
 
-abbrev pub kindIn : Calendar → ℤ → ℕ → Kind
-kindIn K y m = cond (noDaysThatYear K y m) Kind.none (cond (isStrip K.strip m) Kind.strip Kind.month)
+abbrev pub kind_in : Calendar → ℤ → ℕ → Kind
+kind_in K y m = cond (no_days_that_year K y m) Kind.none (cond (is_strip K.strip m) Kind.strip Kind.month)
 
-abbrev pub noPositionAnswer : ℕ → PositionAnswer
-noPositionAnswer k = record { number = k; kind = Kind.none; days = 0 }
+abbrev pub no_position_answer : ℕ → PositionAnswer
+no_position_answer k = record { number = k; kind = Kind.none; days = 0 }
 
-unfoldable pub positionFor : Calendar → ℤ → ℕ → PositionAnswer
-positionFor K y m =
-    cond (yearOut K y) (noPositionAnswer 2)
-    (cond (noPosition K y m) (noPositionAnswer 3)
-    (record { number = 0; kind = kindIn K y m; days = lengthIn K y m }))
+unfoldable pub position_for : Calendar → ℤ → ℕ → PositionAnswer
+position_for K y m =
+    cond (year_out K y) (no_position_answer 2)
+    (cond (no_position K y m) (no_position_answer 3)
+    (record { number = 0; kind = kind_in K y m; days = length_in K y m }))
 
 -- ---- for the claims
 

@@ -8,6 +8,8 @@
 //
 // What is refused answers `refused` and the answer number. One space or more stands between the numbers, and a minus sign may stand before the year. Any
 // other line answers `not a request`.
+#![tactic(auto)]
+
 mod answering;
 mod conversions;
 mod output;

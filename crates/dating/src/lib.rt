@@ -1,6 +1,8 @@
 // The date of a day. The families of calendars are crates of their own; here each calendar is given its family and its first day.
+#![tactic(auto)]
+
 ghost use Rattle.std.specs.Prelude.{◌≤◌};
-ghost use Rattle.counting.specs.Answers.{lastDay, last_of};
+ghost use Rattle.counting.specs.Answers.{last_day, last_of};
 ghost use Rattle.calendar_rules.specs.Calendars.{republican};
 ghost use Rattle.months.specs.Parts.{PlaceTo};
 ghost use Rattle.asking.specs.Steps.{Answered, Found};
@@ -21,7 +23,7 @@ fn republican_date(day: u32) -> Place
 
 // The date of a day that is not too late; month 0 where there is none.
 fn place_on(c: u64, day: u32) -> Place
-    requires { day ≤ lastDay }
+    requires { day ≤ last_day }
     ensures { Answered c (λ K. PlaceTo K (last_of K) day result.year result.month result.day) result.month }
 {
     match c {

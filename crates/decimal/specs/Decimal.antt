@@ -6,56 +6,56 @@ use Rattle.decimal.specs.declared.Number.TheVariants.{Empty, Sign, Natural, Nega
 -- ---- reading
 
 -- `0` to `9`
-abbrev pub isDigit : ℕ → Bool
-isDigit b = leb 48 b && leb b 57
+abbrev pub is_digit : ℕ → Bool
+is_digit b = leb 48 b && leb b 57
 
-unfoldable pub allDigits : List ℕ → Bool
-allDigits [] = true
-allDigits (b ∷ s) = isDigit b && allDigits s
+unfoldable pub all_digits : List ℕ → Bool
+all_digits [] = true
+all_digits (b ∷ s) = is_digit b && all_digits s
 
 -- the number that digits write after the digits of n, high digit first
-unfoldable pub valueFrom : ℕ → List ℕ → ℕ
-valueFrom n [] = n
-valueFrom n (b ∷ s) = valueFrom (n * 10 + (b - 48)) s
+unfoldable pub value_from : ℕ → List ℕ → ℕ
+value_from n [] = n
+value_from n (b ∷ s) = value_from (n * 10 + (b - 48)) s
 
 abbrev pub value : List ℕ → ℕ
-value s = valueFrom 0 s
+value s = value_from 0 s
 
 -- a number, or the largest of 64 bits where it is larger
 abbrev pub capped : ℕ → ℕ
 capped n = min n (2 ^ 64 - 1)
 
 -- what stands behind a minus sign
-unfoldable pub behindMinus : List ℕ → Number
-behindMinus [] = Sign
-behindMinus (b ∷ s) = cond (allDigits (b ∷ s)) (Negative (capped (value (b ∷ s)))) Other
+unfoldable pub behind_minus : List ℕ → Number
+behind_minus [] = Sign
+behind_minus (b ∷ s) = cond (all_digits (b ∷ s)) (Negative (capped (value (b ∷ s)))) Other
 
 -- what bytes are: nothing, a minus sign (45) and what stands behind it, or digits
 unfoldable pub number_of : List ℕ → Number
 number_of [] = Empty
-number_of (b ∷ s) = cond (eqb b 45) (behindMinus s) (cond (allDigits (b ∷ s)) (Natural (capped (value (b ∷ s)))) Other)
+number_of (b ∷ s) = cond (eqb b 45) (behind_minus s) (cond (all_digits (b ∷ s)) (Natural (capped (value (b ∷ s)))) Other)
 
 -- ---- reading byte by byte
 
 -- what bytes are with a digit more
-abbrev pub withDigit : Number → ℕ → Number
-withDigit Empty digit = Natural digit
-withDigit Sign digit = Negative digit
-withDigit (Natural n) digit = Natural (capped (n * 10 + digit))
-withDigit (Negative n) digit = Negative (capped (n * 10 + digit))
-withDigit Other digit = Other
+abbrev pub with_digit : Number → ℕ → Number
+with_digit Empty digit = Natural digit
+with_digit Sign digit = Negative digit
+with_digit (Natural n) digit = Natural (capped (n * 10 + digit))
+with_digit (Negative n) digit = Negative (capped (n * 10 + digit))
+with_digit Other digit = Other
 
 -- and with a minus sign more, which stands in front of a number alone
-abbrev pub withMinus : Number → Number
-withMinus Empty = Sign
-withMinus Sign = Other
-withMinus (Natural n) = Other
-withMinus (Negative n) = Other
-withMinus Other = Other
+abbrev pub with_minus : Number → Number
+with_minus Empty = Sign
+with_minus Sign = Other
+with_minus (Natural n) = Other
+with_minus (Negative n) = Other
+with_minus Other = Other
 
 -- what bytes are with one more
 unfoldable pub pushed : Number → ℕ → Number
-pushed number b = cond (eqb b 45) (withMinus number) (cond (isDigit b) (withDigit number (b - 48)) Other)
+pushed number b = cond (eqb b 45) (with_minus number) (cond (is_digit b) (with_digit number (b - 48)) Other)
 
 -- ---- the whole number
 
@@ -64,25 +64,25 @@ abbrev pub clamp : ℤ → ℤ
 clamp (pos n) = pos (min n (2 ^ 63 - 1))
 clamp (negsuc n) = negsuc (min n (2 ^ 63 - 1))
 
-abbrev pub integerOf : Number → ℤ
-integerOf Empty = pos 0
-integerOf Sign = pos 0
-integerOf (Natural n) = pos n
-integerOf (Negative n) = neg_ℤ (pos n)
-integerOf Other = pos 0
+abbrev pub integer_of : Number → ℤ
+integer_of Empty = pos 0
+integer_of Sign = pos 0
+integer_of (Natural n) = pos n
+integer_of (Negative n) = neg_ℤ (pos n)
+integer_of Other = pos 0
 
 -- ---- writing
 
 -- the decimal digits of a number that has at most `most` of them: as few as it takes, high digit first
-unfoldable pub digitsIn : ℕ → ℕ → List ℕ
-digitsIn zero n = []
-digitsIn (suc most) n = cond (ltb n 10) ((48 + n) ∷ []) (digitsIn most (n / 10) ++ (48 + n % 10) ∷ [])
+unfoldable pub digits_in : ℕ → ℕ → List ℕ
+digits_in zero n = []
+digits_in (suc most) n = cond (ltb n 10) ((48 + n) ∷ []) (digits_in most (n / 10) ++ (48 + n % 10) ∷ [])
 
 -- a number of 64 bits has at most 20
 abbrev pub text : ℕ → List ℕ
-text n = digitsIn 20 n
+text n = digits_in 20 n
 
 -- with a minus sign before a negative number
-abbrev pub signedText : ℤ → List ℕ
-signedText (pos n) = text n
-signedText (negsuc n) = 45 ∷ text (suc n)
+abbrev pub signed_text : ℤ → List ℕ
+signed_text (pos n) = text n
+signed_text (negsuc n) = 45 ∷ text (suc n)

@@ -2,9 +2,9 @@
 use Rattle.std.specs.Prelude.{◌≡◌, List, [], ◌∷◌, ◌++◌, ℕ, zero, suc, ◌+◌, ◌/◌, ◌%◌, ◌≤◌, length, take}
 
 -- the lowest `count` digits of a number, high digit first
-unfoldable pub lowDigits : ℕ → ℕ → List ℕ
-lowDigits zero n = []
-lowDigits (suc count) n = lowDigits count (n / 10) ++ (48 + n % 10) ∷ []
+unfoldable pub low_digits : ℕ → ℕ → List ℕ
+low_digits zero n = []
+low_digits (suc count) n = low_digits count (n / 10) ++ (48 + n % 10) ∷ []
 
 -- n counts bytes at the front of a buffer. The second part follows from the first; a proof of `&buffer[..n]` looks for both.
 abbrev pub Counts : ℕ → List ℕ → Type 0

@@ -1,8 +1,10 @@
 // Decimal numbers as text: reading, byte by byte or a slice, and writing.
 // `proofs/Claims.antt` is the page to read first.
+#![tactic(auto)]
+
 ghost use Rattle.std.specs.Prelude.{◌≡◌, ◌++◌, ◌+◌, ◌-◌, ◌*◌, ◌≤◌, ◌<◌, length, take, drop, nat_abs};
-ghost use Rattle.decimal.specs.Decimal.{capped, number_of, pushed, integerOf, clamp, text, signedText};
-ghost use Rattle.decimal.specs.Inner.{lowDigits, Counts};
+ghost use Rattle.decimal.specs.Decimal.{capped, number_of, pushed, integer_of, clamp, text, signed_text};
+ghost use Rattle.decimal.specs.Inner.{low_digits, Counts};
 
 // What some bytes are, read so far.
 #[derive(Drop)]
@@ -82,7 +84,7 @@ pub fn read(text: &[u8]) -> Number
 
 // The whole number that was read, the nearest that is an i64; 0 for what is no number.
 pub fn signed(number: Number) -> i64
-    ensures { result ≡ clamp (integerOf number) }
+    ensures { result ≡ clamp (integer_of number) }
 {
     match number {
         Number::Natural(n) => {
@@ -119,7 +121,7 @@ fn places(n: u64) -> usize
 // Writes the lowest digits of n at the places from `start` to before `end`, the last of them first.
 fn fill(n: u64, start: usize, end: usize, out: &mut [u8])
     requires { (start ≤ end) × (end ≤ length out.old) }
-    ensures { out.new ≡ take start out.old ++ (lowDigits (end - start) n ++ drop end out.old) }
+    ensures { out.new ≡ take start out.old ++ (low_digits (end - start) n ++ drop end out.old) }
 {
     let mut rest = n;
     let mut k = end;
@@ -155,10 +157,10 @@ fn magnitude(n: i64) -> u64
 
 // The same of a signed number, with a minus sign before a negative one.
 pub fn write_signed(n: i64, out: &mut [u8; 20]) -> usize
-    ensures written { out.new ≡ signedText n ++ drop result out.old }
-    ensures many { result ≡ length (signedText n) }
+    ensures written { out.new ≡ signed_text n ++ drop result out.old }
+    ensures many { result ≡ length (signed_text n) }
     ensures within { Counts result out.new }
-    ensures front { take result out.new ≡ signedText n }
+    ensures front { take result out.new ≡ signed_text n }
 {
     let distance = magnitude(n);
     if n < 0 {

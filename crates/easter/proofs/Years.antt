@@ -1,4 +1,4 @@
--- Signed years: what `yearFrom` answers, and that a rule asked within its years goes by that answer.
+-- Signed years: what `year_from` answers, and that a rule asked within its years goes by that answer.
 use mathlib.Core.Path.{◌≡◌, refl, sym, ap, ◌∙◌}
 use mathlib.Core.Bool.{Bool, true, false, cond, ◌&&◌}
 use Prim.Native.Nat.{ℕ, ◌≤◌}
@@ -9,14 +9,14 @@ use lib.Signed.{lt_z, non_neg}
 use mir.Syntax.{w64}
 use mir.Val.{Fits, SFits}
 use borrow.Author.Tests.{ltb-true, leb-true}
-use Rattle.computus.specs.Rule.{EasterAnswer, refused, inYears}
-use Rattle.easter.specs.Years.{yearFrom}
+use Rattle.computus.specs.Rule.{EasterAnswer, refused, in_years}
+use Rattle.easter.specs.Years.{year_from}
 use Rattle.easter.specs.declared.Year.{Year}
 use Rattle.easter.specs.declared.Year.TheVariants.{In, Out}
 
-pub below-zero : (first : ℕ) (year : ℤ) → lt_z year (pos 0) ≡ true → yearFrom first year ≡ Out
-below-zero first (pos A) h = absurd (omega (arith, ltb-true A 0 h))
-below-zero first (negsuc k) h = refl
+pub below_zero : (first : ℕ) (year : ℤ) → lt_z year (pos 0) ≡ true → year_from first year ≡ Out
+below_zero first (pos A) h = absurd (omega (arith, ltb-true A 0 h))
+below_zero first (negsuc k) h = refl
 
 pub from_zero : (year : ℤ) → lt_z year (pos 0) ≡ false → year ≡ pos (nat_abs year)
 from_zero (pos A) h = refl
@@ -32,18 +32,18 @@ abbrev asked : (ℕ → EasterAnswer) → Year → EasterAnswer
 asked rule (In A) = rule A
 asked rule Out = refused 2
 
-pub asked-for : (first : ℕ) (rule : ℕ → EasterAnswer) (year : ℤ) (Y : Year) → Y ≡ yearFrom first year → inYears first rule year ≡ asked rule Y
-unfolding inYears
-asked-for first rule (negsuc k) Y h = rw h refl
-asked-for first rule (pos A) Y h = go (leb first A && leb A 9999) refl ∙ ap (asked rule) (sym h)
+pub asked_for : (first : ℕ) (rule : ℕ → EasterAnswer) (year : ℤ) (Y : Year) → Y ≡ year_from first year → in_years first rule year ≡ asked rule Y
+unfolding in_years
+asked_for first rule (negsuc k) Y h = rw h refl
+asked_for first rule (pos A) Y h = go (leb first A && leb A 9999) refl ∙ ap (asked rule) (sym h)
   where
     go : (t : Bool) → (leb first A && leb A 9999) ≡ t → cond t (rule A) (refused 2) ≡ asked rule (cond t (In A) Out)
     go true e = refl
     go false e = refl
 
-pub at-most-9999 : (first : ℕ) (year : ℤ) (A : ℕ) → In A ≡ yearFrom first year → A ≤ 9999
-at-most-9999 first (negsuc k) A h = let z : ◌≡◌ {A = ℕ} 0 1 = cc in absurd (omega arith)
-at-most-9999 first (pos B) A h = go (leb first B) (leb B 9999) refl h
+pub at_most_9999 : (first : ℕ) (year : ℤ) (A : ℕ) → In A ≡ year_from first year → A ≤ 9999
+at_most_9999 first (negsuc k) A h = let z : ◌≡◌ {A = ℕ} 0 1 = cc in absurd (omega arith)
+at_most_9999 first (pos B) A h = go (leb first B) (leb B 9999) refl h
   where
     go : (s t : Bool) → leb B 9999 ≡ t → In A ≡ cond (s && t) (In B) Out → A ≤ 9999
     go true true e q = let x : A ≡ B = cc in omega (arith, leb-true B 9999 e)

@@ -6,10 +6,10 @@ use Rattle.easter.specs.declared.EasterDate.{EasterDate}
 use Rattle.easter.specs.declared.EasterDate.TheVariants.{On, Refused}
 
 -- a date has the number 0
-abbrev pub datePaper : MonthDay → EasterAnswer
-datePaper D = record { number = 0; month = D.month; day = D.day }
+abbrev pub date_paper : MonthDay → EasterAnswer
+date_paper D = record { number = 0; month = D.month; day = D.day }
 
 -- a refusal has its number and no date
-abbrev pub easterPaper : EasterDate → EasterAnswer
-easterPaper (On D) = datePaper D
-easterPaper (Refused why) = refused (number_of why)
+abbrev pub easter_paper : EasterDate → EasterAnswer
+easter_paper (On D) = date_paper D
+easter_paper (Refused why) = refused (number_of why)

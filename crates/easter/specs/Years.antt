@@ -4,6 +4,6 @@ use Rattle.easter.specs.declared.Year.{Year}
 use Rattle.easter.specs.declared.Year.TheVariants.{In, Out}
 
 -- a year from `first` to 9,999
-abbrev pub yearFrom : ℕ → ℤ → Year
-yearFrom first (pos A) = cond (leb first A && leb A 9999) (In A) Out
-yearFrom first (negsuc k) = Out
+abbrev pub year_from : ℕ → ℤ → Year
+year_from first (pos A) = cond (leb first A && leb A 9999) (In A) Out
+year_from first (negsuc k) = Out

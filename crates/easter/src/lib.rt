@@ -1,8 +1,10 @@
 // Easter in the Julian and the Gregorian calendar, for any calendar number and year.
+#![tactic(auto)]
+
 ghost use Rattle.std.specs.Prelude.{◌≡◌, ◌≤◌, ◌<◌};
-ghost use Rattle.computus.specs.Rule.{quotientR, gregorianM, gregorianN, ordinary, dated, easterOf, inYears, julianEaster, gregorianEaster, easterAnswer};
-ghost use Rattle.easter.specs.Paper.{datePaper, easterPaper};
-ghost use Rattle.easter.specs.Years.{yearFrom};
+ghost use Rattle.computus.specs.Rule.{quotient_r, gregorian_m, gregorian_n, ordinary, dated, easter_of, in_years, julian_easter, gregorian_easter, easter_answer};
+ghost use Rattle.easter.specs.Paper.{date_paper, easter_paper};
+ghost use Rattle.easter.specs.Years.{year_from};
 
 use refusals::Refusal;
 
@@ -20,7 +22,7 @@ pub enum EasterDate {
 
 // Easter of a year: in calendar 10 (Julian) from year 1, in calendar 11 (Gregorian) from year 1583, in both to year 9999.
 pub fn easter(calendar: u64, year: i64) -> EasterDate
-    ensures { easterPaper result ≡ easterAnswer calendar year }
+    ensures { easter_paper result ≡ easter_answer calendar year }
 {
     match calendar {
         10 => julian(year),
@@ -30,7 +32,7 @@ pub fn easter(calendar: u64, year: i64) -> EasterDate
 }
 
 fn julian(year: i64) -> EasterDate
-    ensures { easterPaper result ≡ inYears 1 julianEaster year }
+    ensures { easter_paper result ≡ in_years 1 julian_easter year }
 {
     match year_from(1, year) {
         Year::In(y) => EasterDate::On(by_constants(15, 6, y)),
@@ -39,7 +41,7 @@ fn julian(year: i64) -> EasterDate
 }
 
 fn gregorian(year: i64) -> EasterDate
-    ensures { easterPaper result ≡ inYears 1583 gregorianEaster year }
+    ensures { easter_paper result ≡ in_years 1583 gregorian_easter year }
 {
     match year_from(1583, year) {
         Year::In(y) => {
@@ -59,7 +61,7 @@ enum Year {
 
 // The year, if it lies from `first` to 9999.
 fn year_from(first: u64, year: i64) -> Year
-    ensures { result ≡ yearFrom first year }
+    ensures { result ≡ year_from first year }
 {
     if year < 0 {
         return Year::Out;
@@ -83,7 +85,7 @@ struct Constants {
 
 fn gregorian_constants(year: u64) -> Constants
     requires { year ≤ 9999 }
-    ensures { (result.m ≡ gregorianM year) × (result.n ≡ gregorianN year) }
+    ensures { (result.m ≡ gregorian_m year) × (result.n ≡ gregorian_n year) }
 {
     let s = year / 100;
     let p = (s - quotient_r(s)) / 3;
@@ -96,7 +98,7 @@ fn gregorian_constants(year: u64) -> Constants
 
 // The quotient of s-17 by 25, 0 where s is below 17.
 fn quotient_r(s: u64) -> u64
-    ensures { result ≡ quotientR s }
+    ensures { result ≡ quotient_r s }
 {
     if s < 17 { 0 } else { (s - 17) / 25 }
 }
@@ -104,7 +106,7 @@ fn quotient_r(s: u64) -> u64
 // The date by the constants m and n of its calendar. The letters are those of the rule (crate computus, specs/Rule.antt).
 fn by_constants(m: u64, n: u64, year: u64) -> MonthDay
     requires { (m < 30) × (n < 7) }
-    ensures { datePaper result ≡ easterOf m n year }
+    ensures { date_paper result ≡ easter_of m n year }
 {
     let a = year % 19;
     let b = year % 4;
@@ -116,7 +118,7 @@ fn by_constants(m: u64, n: u64, year: u64) -> MonthDay
 
 fn date(m: u64, d: u64, e: u64) -> MonthDay
     requires { (m < 30) × ((d < 30) × (e < 7)) }
-    ensures { datePaper result ≡ dated m d e }
+    ensures { date_paper result ≡ dated m d e }
 {
     if e == 6 {
         // Exception I.
@@ -136,7 +138,7 @@ fn date(m: u64, d: u64, e: u64) -> MonthDay
 // The date where no exception applies.
 fn ordinary_date(d: u64, e: u64) -> MonthDay
     requires { (d < 30) × (e < 7) }
-    ensures { datePaper result ≡ ordinary d e }
+    ensures { date_paper result ≡ ordinary d e }
 {
     let day = 22 + d + e;
     if day <= 31 {

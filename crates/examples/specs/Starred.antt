@@ -1,17 +1,17 @@
 -- The worked examples that docs/RULES.md marks with a star ("Worked examples"), as one table, over the definitions that the promises cite:
--- `dayAnswerWith` and, without a weekday, `dayAnswer` for date to day, `dateAnswer` for day to date, `positionAnswer` for a position, of crate calendar_rules;
--- `fitOf` of crate lines for fitting.
+-- `day_answer_with` and, without a weekday, `day_answer` for date to day, `date_answer` for day to date, `position_answer` for a position, of crate calendar_rules;
+-- `fit_of` of crate lines for fitting.
 use Rattle.std.specs.Prelude.{◌≡◌, List, [], ◌∷◌, ℕ, ℤ, pos, negsuc}
-use Rattle.lines.specs.Fit.{Answer, line, refused, fitOf}
-use Rattle.counting.specs.Answers.{DayAnswer, DateAnswer, noDayAnswer}
+use Rattle.lines.specs.Fit.{Answer, line, refused, fit_of}
+use Rattle.counting.specs.Answers.{DayAnswer, DateAnswer, no_day_answer}
 use Rattle.counting.specs.Positions.{PositionAnswer}
-use Rattle.calendar_rules.specs.Answers.{dayAnswer, dayAnswerWith, dateAnswer, positionAnswer}
+use Rattle.calendar_rules.specs.Answers.{day_answer, day_answer_with, date_answer, position_answer}
 use Rattle.calendar_rules.specs.Examples.{is}
 
 -- a question and its answer: the day of a date (calendar, year, month, day; and with a weekday), the date of a day, a position of a year, or the line of a code
 pub data Example : Type 0 where
   date : ℕ → ℤ → ℕ → ℕ → DayAnswer → Example
-  dateWith : ℕ → ℤ → ℕ → ℕ → ℕ → DayAnswer → Example
+  date_with : ℕ → ℤ → ℕ → ℕ → ℕ → DayAnswer → Example
   day : ℕ → ℕ → DateAnswer → Example
   position : ℕ → ℤ → ℕ → PositionAnswer → Example
   code : List ℕ → Answer → Example
@@ -26,10 +26,10 @@ starred =
     ∷ date 11 (pos 1582) 10 15 (is 2299161)
     -- Gregorian 2000/2/29 is 2451604; 1900/2/29 is refused 4
     ∷ date 11 (pos 2000) 2 29 (is 2451604)
-    ∷ date 11 (pos 1900) 2 29 (noDayAnswer 4)
+    ∷ date 11 (pos 1900) 2 29 (no_day_answer 4)
     -- Islamic B 2/12/30 is 1949148; 1/12/30 is refused 4
     ∷ date 13 (pos 2) 12 30 (is 1949148)
-    ∷ date 13 (pos 1) 12 30 (noDayAnswer 4)
+    ∷ date 13 (pos 1) 12 30 (no_day_answer 4)
     -- Hebrew 5784/1/1 is 2460204, and 5785/1/1 is 2460587
     ∷ date 18 (pos 5784) 1 1 (is 2460204)
     ∷ date 18 (pos 5785) 1 1 (is 2460587)
@@ -46,8 +46,8 @@ starred =
 
 -- the example is answered as it says
 abbrev pub Answered : Example → Type 0
-Answered (date c y m d a) = dayAnswer c y m d ≡ a
-Answered (dateWith c y m d w a) = dayAnswerWith c y m d w ≡ a
-Answered (day c n a) = dateAnswer c n ≡ a
-Answered (position c y m a) = positionAnswer c y m ≡ a
-Answered (code ls a) = fitOf ls ≡ a
+Answered (date c y m d a) = day_answer c y m d ≡ a
+Answered (date_with c y m d w a) = day_answer_with c y m d w ≡ a
+Answered (day c n a) = date_answer c n ≡ a
+Answered (position c y m a) = position_answer c y m ≡ a
+Answered (code ls a) = fit_of ls ≡ a

@@ -5,6 +5,8 @@
 //   unfold 153 5 2 6 5       the same into a buffer of 5 places, which answers 11
 //
 // One space or more stands before each number. Any other line answers `not a request`.
+#![tactic(auto)]
+
 mod answering;
 mod reading;
 

@@ -1,7 +1,9 @@
 // Fitting: the digital straight line with the least denominator that generates a code of month lengths.
+#![tactic(auto)]
+
 ghost use Rattle.std.specs.Prelude.{◌≡◌, ◌+◌, ◌-◌, ◌≤◌, ◌<◌, min, max};
-ghost use Rattle.lines.specs.Fit.{Within, fitOf};
-ghost use Rattle.fitting.specs.Paper.{fitPaper};
+ghost use Rattle.lines.specs.Fit.{Within, fit_of};
+ghost use Rattle.fitting.specs.Paper.{fit_paper};
 
 use codes::Line;
 use refusals::Refusal;
@@ -41,7 +43,7 @@ fn lowered(high: u64, top: u64, reach: u64) -> u64
 // bounds the offset by b y - a k below and by b - 1 more above, where y is the sum of the first k lengths.
 fn least_denominator(code: &[u64]) -> Fitted
     requires { Within code.now }
-    ensures { fitPaper result ≡ fitOf code.now }
+    ensures { fit_paper result ≡ fit_of code.now }
 {
     let n = code.len();
     let mut tried: usize = 0;
@@ -90,7 +92,7 @@ fn least_denominator(code: &[u64]) -> Fitted
 
 // The line with the least denominator that generates the code, or why there is none.
 pub fn fit(code: &[u64]) -> Fitted
-    ensures { fitPaper result ≡ fitOf code.now }
+    ensures { fit_paper result ≡ fit_of code.now }
 {
     if codes::within_limits(code) {
         least_denominator(code)

@@ -5,9 +5,9 @@ use mathlib.Core.Bool.{true, false}
 use Prim.Native.Nat.{ℕ, ◌+◌, ◌*◌, ◌/◌, ◌%◌, ◌^◌, ◌<◌}
 use native.Mathlib.Nat.{div-one, div-add-mod', mod-mod, div-div-eq-div-mul}
 use native.Mathlib.Omega.{arith}
-use Rattle.hex.specs.Digits.{sixteenDigits, number_in, writtenIn}
-use Rattle.hex.proofs.Claims.{sixteen-parts}
-use Rattle.hex.proofs.Laws.{part, written-join, written_low}
+use Rattle.hex_digits.specs.Digits.{sixteen_digits, number_in, written_in}
+use Rattle.hex_digits.proofs.Claims.{sixteen_parts}
+use Rattle.hex_digits.proofs.Laws.{part, written_join, written_low}
 use Rattle.frames.specs.declared.Frame.{Frame}
 use Rattle.frames.specs.declared.Reading.TheVariants.{Fields, Malformed}
 use Rattle.frames.specs.Frame.{fields_of, reading_of, frame_of}
@@ -25,14 +25,14 @@ pub record Narrow (f : Frame) : Type 0 where
 abbrev frame : ℕ → ℕ → ℕ → ℕ → ℕ → Frame
 frame c y m d n = record { calendar = c; year = y; month = m; day = d; number = n }
 
-pub same-frame : {c y m d n c' y' m' d' n' : ℕ} → c ≡ c' → y ≡ y' → m ≡ m' → d ≡ d' → n ≡ n' → frame c y m d n ≡ frame c' y' m' d' n'
-same-frame ec ey em ed en = cc
+pub same_frame : {c y m d n c' y' m' d' n' : ℕ} → c ≡ c' → y ≡ y' → m ≡ m' → d ≡ d' → n ≡ n' → frame c y m d n ≡ frame c' y' m' d' n'
+same_frame ec ey em ed en = cc
 
 -- the fields of a frame, out of the number that its digits write
-pub fields-parts : (line : List ℕ) → sixteenDigits line ≡ true → fields_of line ≡ parts_of (number_in line)
+pub fields_parts : (line : List ℕ) → sixteen_digits line ≡ true → fields_of line ≡ parts_of (number_in line)
 unfolding fields_of
-fields-parts line h =
-    let p = sixteen-parts line h in
+fields_parts line h =
+    let p = sixteen_parts line h in
     let a = p.1 in
     let l = p.0 in
     rw (part line 0 2 14 a l, part line 2 4 10 a l, part line 6 2 8 a l, part line 8 2 6 a l, part line 10 6 0 a l, div-one)
@@ -42,8 +42,8 @@ together : (n q6 q8 q10 q14 a b c d e : ℕ) → n ≡ q6 * 16 ^ 6 + e → q6 �
     → a * 16 ^ 14 + b * 16 ^ 10 + c * 16 ^ 8 + d * 16 ^ 6 + e ≡ n
 together n q6 q8 q10 q14 a b c d e h₁ h₂ h₃ h₄ h₅ = omega arith
 
-pub packed-parts : (n : ℕ) → n < 2 ^ 64 → packed (parts_of n) ≡ n
-packed-parts n h =
+pub packed_parts : (n : ℕ) → n < 2 ^ 64 → packed (parts_of n) ≡ n
+packed_parts n h =
     simp mod-mod
     (together n (n / 16 ^ 6) (n / 16 ^ 8) (n / 16 ^ 10) (n / 16 ^ 14) _ _ _ _ _ (sym (div-add-mod' n (16 ^ 6))) (further n (16 ^ 6) (16 ^ 2))
     (further n (16 ^ 8) (16 ^ 2)) (further n (16 ^ 10) (16 ^ 4)) (omega arith))
@@ -51,8 +51,8 @@ packed-parts n h =
     further : (n p q : ℕ) → n / p ≡ n / (p * q) * q + n / p % q
     further n p q = sym (div-add-mod' (n / p) q) ∙ ap (λ (x : ℕ). x * q + n / p % q) (div-div-eq-div-mul n p q)
 
-pub parts-packed : (f : Frame) → Narrow f → parts_of (packed f) ≡ f
-parts-packed f h =
+pub parts_packed : (f : Frame) → Narrow f → parts_of (packed f) ≡ f
+parts_packed f h =
     let c : packed f / 16 ^ 14 % 16 ^ 2 ≡ f.calendar = omega arith in
     let y : packed f / 16 ^ 10 % 16 ^ 4 ≡ f.year = omega arith in
     let m : packed f / 16 ^ 8 % 16 ^ 2 ≡ f.month = omega arith in
@@ -61,18 +61,18 @@ parts-packed f h =
     rw (c, y, m, d, n)
 
 -- the digits of the fields one after the other are those of the number
-pub frame-written : (f : Frame) → frame_of f ≡ writtenIn 16 (packed f)
+pub frame_written : (f : Frame) → frame_of f ≡ written_in 16 (packed f)
 unfolding frame_of
-frame-written f =
-    sym (ap (writtenIn 16) sum
-    ∙ written-join 2 14 (f.calendar % 16 ^ 2) p14 (omega arith) ∙ ap (λ (x : List ℕ). x ++ writtenIn 14 p14) (written_low 2 f.calendar)
-    ∙ ap (λ (x : List ℕ). writtenIn 2 f.calendar ++ x) (written-join 4 10 (f.year % 16 ^ 4) p10 (omega arith)
-    ∙ ap (λ (x : List ℕ). x ++ writtenIn 10 p10) (written_low 4 f.year)
-    ∙ ap (λ (x : List ℕ). writtenIn 4 f.year ++ x) (written-join 2 8 (f.month % 16 ^ 2) p8 (omega arith)
-    ∙ ap (λ (x : List ℕ). x ++ writtenIn 8 p8) (written_low 2 f.month)
-    ∙ ap (λ (x : List ℕ). writtenIn 2 f.month ++ x) (written-join 2 6 (f.day % 16 ^ 2) p6 (omega arith)
-    ∙ ap (λ (x : List ℕ). x ++ writtenIn 6 p6) (written_low 2 f.day)
-    ∙ ap (λ (x : List ℕ). writtenIn 2 f.day ++ x) (written_low 6 f.number)))))
+frame_written f =
+    sym (ap (written_in 16) sum
+    ∙ written_join 2 14 (f.calendar % 16 ^ 2) p14 (omega arith) ∙ ap (λ (x : List ℕ). x ++ written_in 14 p14) (written_low 2 f.calendar)
+    ∙ ap (λ (x : List ℕ). written_in 2 f.calendar ++ x) (written_join 4 10 (f.year % 16 ^ 4) p10 (omega arith)
+    ∙ ap (λ (x : List ℕ). x ++ written_in 10 p10) (written_low 4 f.year)
+    ∙ ap (λ (x : List ℕ). written_in 4 f.year ++ x) (written_join 2 8 (f.month % 16 ^ 2) p8 (omega arith)
+    ∙ ap (λ (x : List ℕ). x ++ written_in 8 p8) (written_low 2 f.month)
+    ∙ ap (λ (x : List ℕ). written_in 2 f.month ++ x) (written_join 2 6 (f.day % 16 ^ 2) p6 (omega arith)
+    ∙ ap (λ (x : List ℕ). x ++ written_in 6 p6) (written_low 2 f.day)
+    ∙ ap (λ (x : List ℕ). written_in 2 f.day ++ x) (written_low 6 f.number)))))
   where
     p6 : ℕ
     p6 = f.number % 16 ^ 6
@@ -91,10 +91,10 @@ frame-written f =
 
 -- ---- what reading answers
 
-pub reads-frame : (line : List ℕ) → sixteenDigits line ≡ true → reading_of line ≡ Fields (fields_of line)
+pub reads_frame : (line : List ℕ) → sixteen_digits line ≡ true → reading_of line ≡ Fields (fields_of line)
 unfolding reading_of
-reads-frame line h = rw h
+reads_frame line h = rw h
 
-pub reads_other : (line : List ℕ) → sixteenDigits line ≡ false → reading_of line ≡ Malformed
+pub reads_other : (line : List ℕ) → sixteen_digits line ≡ false → reading_of line ≡ Malformed
 unfolding reading_of
 reads_other line h = rw h

@@ -1,10 +1,12 @@
 // The fields of a frame (docs/RULES.md, "Sheets"): reading them from a line and writing them to one.
 // `proofs/Claims.antt` is the page to read first.
+#![tactic(auto)]
+
 ghost use Rattle.std.specs.Prelude.{◌≡◌};
 ghost use Rattle.frames.specs.Frame.{reading_of, frame_of};
 ghost use Rattle.frames.specs.Inner.{parts_of, packed};
 
-use hex::Digits;
+use hex_digits::Digits;
 
 // The numbers that a frame carries. The year is the year plus 4,712.
 #[derive(Drop)]
@@ -40,7 +42,7 @@ fn parts(n: u64) -> Frame
 pub fn read(line: &[u8]) -> Reading
     ensures { result ≡ reading_of line.now }
 {
-    match hex::read(line) {
+    match hex_digits::read(line) {
         Digits::Number(n) => Reading::Fields(parts(n)),
         Digits::Malformed => Reading::Malformed,
     }
@@ -61,5 +63,5 @@ fn pack(f: Frame) -> u64
 pub fn write(f: Frame) -> [u8; 16]
     ensures { result ≡ frame_of f }
 {
-    hex::write(pack(f))
+    hex_digits::write(pack(f))
 }

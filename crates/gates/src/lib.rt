@@ -1,7 +1,9 @@
 // The Hebrew year: its first day and kind by the four gates, that is by where in the week its new moon falls, 6 hours on.
+#![tactic(auto)]
+
 ghost use Rattle.std.specs.Prelude.{cond, ◌≡◌, ◌+◌, ◌≤◌};
 ghost use Rattle.hebrew.specs.Hebrew.{leap};
-ghost use Rattle.months.specs.Hebrew.{HebrewYear, monthsTo, gateDays, nextDays};
+ghost use Rattle.months.specs.Hebrew.{HebrewYear, months_to, gate_days, next_days};
 
 // A year: its first day, 1 where it is leap, and its kind.
 #[derive(Drop)]
@@ -14,7 +16,7 @@ pub struct Year {
 // 13 more than the months before year y.
 fn months_to(y: u64) -> u64
     requires { y ≤ 65539 }
-    ensures { result ≡ monthsTo y }
+    ensures { result ≡ months_to y }
 {
     (12969230 * y + 738000) >> 20
 }
@@ -29,7 +31,7 @@ fn leap_of(y: u64) -> u64
 
 // The days from Monday to the year's first day.
 fn gate_days(rest: u64, a: u64, b: u64) -> u64
-    ensures { (result ≡ gateDays rest a b) × (result ≤ 7) }
+    ensures { (result ≡ gate_days rest a b) × (result ≤ 7) }
 {
     parts::pick(a <= rest, 1, 0)
         + 2 * (parts::pick(b <= rest, 1, 0)
@@ -39,7 +41,7 @@ fn gate_days(rest: u64, a: u64, b: u64) -> u64
 
 // The days from Saturday to the next year's first day.
 fn next_days(far: u64, a: u64, b: u64) -> u64
-    ensures { (result ≡ nextDays far a b) × (result ≤ 7) }
+    ensures { (result ≡ next_days far a b) × (result ≤ 7) }
 {
     parts::pick(a <= far, 1, 0)
         + 2 * (parts::pick(155520 <= far, 1, 0)

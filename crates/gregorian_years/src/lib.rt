@@ -1,7 +1,9 @@
 // Years of the Gregorian kind, which calendars 11, 14 and 15 have: counted from -4800, which is divisible by 400, each from a position after which its extra day
 // is the last. That of year z falls in the Gregorian year z + 1.
+#![tactic(auto)]
+
 ghost use Rattle.std.specs.Prelude.{cond, ◌≡◌, ◌+◌, ◌≤◌};
-ghost use Rattle.months.specs.Leap.{gregorianLong, gregorianStart, GregorianDay};
+ghost use Rattle.months.specs.Leap.{gregorian_long, gregorian_start, GregorianDay};
 
 // A day: its year, and the days of that year before it.
 #[derive(Drop)]
@@ -12,7 +14,7 @@ pub struct YearDay {
 
 // 1 if year z has its extra day, else 0. The last year of a century is looked at by itself: one number of two is taken, which costs less than tests joined.
 pub fn extra_days(z: u32) -> u64
-    ensures { (result ≡ cond (gregorianLong z) 1 0) × (result ≤ 1) }
+    ensures { (result ≡ cond (gregorian_long z) 1 0) × (result ≤ 1) }
 {
     let y = z as u64;
     let century = (z / 100) as u64;
@@ -24,7 +26,7 @@ pub fn extra_days(z: u32) -> u64
 
 // The days before year z.
 pub fn year_start(z: u32) -> u64
-    ensures { result ≡ gregorianStart z }
+    ensures { result ≡ gregorian_start z }
 {
     let century = (z / 100) as u64;
     1461 * (z as u64) / 4 - century + century / 4

@@ -1,17 +1,17 @@
 -- First days, computed from the rules: those that docs/RULES.md gives, and those around its last day.
 use mathlib.Core.Path.{◌≡◌, refl}
 use native.Mathlib.Omega.{arith}
-use Rattle.hebrew.specs.Hebrew.{leap, monthsIn, monthsBefore, moon, moonDay, moonHour, secondApplies, thirdApplies, moved, fourthApplies, fourth, newYear}
+use Rattle.hebrew.specs.Hebrew.{leap, months_in, months_before, moon, moon_day, moon_hour, second_applies, third_applies, moved, fourth_applies, fourth, new_year}
 use Rattle.hebrew.proofs.Calendar.{YearOf}
 
-first-days : (newYear 1 ≡ 347998) × (newYear 5784 ≡ 2460204) × (newYear 5785 ≡ 2460587)
-unfolding newYear moved fourth fourthApplies secondApplies thirdApplies moonDay moonHour moon monthsBefore monthsIn leap
-first-days = (refl, refl, refl)
+first_days : (new_year 1 ≡ 347998) × (new_year 5784 ≡ 2460204) × (new_year 5785 ≡ 2460587)
+unfolding new_year moved fourth fourth_applies second_applies third_applies moon_day moon_hour moon months_before months_in leap
+first_days = (refl, refl, refl)
 
 -- day 5,373,484 is in year 13,760
-around : (newYear 13760 ≡ 5373427) × (newYear 13761 ≡ 5373781)
-unfolding newYear moved fourth fourthApplies secondApplies thirdApplies moonDay moonHour moon monthsBefore monthsIn leap
+around : (new_year 13760 ≡ 5373427) × (new_year 13761 ≡ 5373781)
+unfolding new_year moved fourth fourth_applies second_applies third_applies moon_day moon_hour moon months_before months_in leap
 around = (refl, refl)
 
-pub last-year : YearOf 5373484 13760
-last-year = record { from-1 = omega arith; begun = omega (arith, around); still = omega (arith, around) }
+pub last_year_lem : YearOf 5373484 13760
+last_year_lem = record { from_1 = omega arith; begun = omega (arith, around); still = omega (arith, around) }

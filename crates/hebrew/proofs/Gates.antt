@@ -35,27 +35,27 @@ gate take give (suc (suc (suc k))) = record { weekday = 5; early = 25920; late =
 pub record By (g : Gate) (m n : ℕ) : Type 0 where
   pub weekday : n % 7 ≡ g.weekday
   pub opened : 25920 * n ≤ m + g.early
-  pub not-shut : m + g.late < 25920 * (n + 1)
+  pub not_shut : m + g.late < 25920 * (n + 1)
 
 -- by one of the four
 pub record Begins (take give : Handed) (m n : ℕ) : Type 0 where
   pub number : ℕ
-  pub one-of-4 : number < 4
+  pub one_of_4 : number < 4
   pub by : By (gate take give number) m n
 
 -- what is so for each gate
-pub at-gate : {take give : Handed} {m n : ℕ} (b : Begins take give m n) (P : ℕ → Type 0) → Each 4 (λ (k : ℕ). By (gate take give k) m n → P k) → P b.number
-at-gate {take} {give} {m} {n} b P e = each 4 (λ (k : ℕ). By (gate take give k) m n → P k) e b.number b.one-of-4 b.by
+pub at_gate : {take give : Handed} {m n : ℕ} (b : Begins take give m n) (P : ℕ → Type 0) → Each 4 (λ (k : ℕ). By (gate take give k) m n → P k) → P b.number
+at_gate {take} {give} {m} {n} b P e = each 4 (λ (k : ℕ). By (gate take give k) m n → P k) e b.number b.one_of_4 b.by
 
 pub widen : {take give : Handed} {m n : ℕ} (take' give' : Handed)
     → take.monday ≤ take'.monday → take.tuesday ≤ take'.tuesday → give'.monday ≤ give.monday → give'.tuesday ≤ give.tuesday
     → Begins take give m n → Begins take' give' m n
 widen {take} {give} {m} {n} take' give' h i j k b =
-    record { number = b.number; one-of-4 = b.one-of-4; by = at-gate b (λ (k : ℕ). By (gate take' give' k) m n) (omega arith) }
+    record { number = b.number; one_of_4 = b.one_of_4; by = at_gate b (λ (k : ℕ). By (gate take' give' k) m n) (omega arith) }
 
 -- the new moon is at most 35,436 parts before the first day, and before its end
 pub near : {take give : Handed} {m n : ℕ} → take.monday ≤ 2651 → take.tuesday ≤ 9516 → Begins take give m n → (25920 * n ≤ m + 35436) × (m < 25920 * (n + 1))
-near {take} {give} {m} {n} h i b = at-gate b (λ (k : ℕ). (25920 * n ≤ m + 35436) × (m < 25920 * (n + 1))) (omega arith)
+near {take} {give} {m} {n} h i b = at_gate b (λ (k : ℕ). (25920 * n ≤ m + 35436) × (m < 25920 * (n + 1))) (omega arith)
 
 -- ---- from one first day to the next
 
@@ -83,23 +83,23 @@ apart : {take give take' give' : Handed} {m n n' : ℕ} (jump low : ℕ) → Pai
 apart {take} {give} {take'} {give'} {m} {n} {n'} jump low all b b' =
     let g = gate take give in
     let g' = gate take' give' in
-    let row = each 4 (λ (k : ℕ). Each 4 (λ (k' : ℕ). Pair (g k) (g' k') jump low)) all b.number b.one-of-4 in
-    let pair = each 4 (λ (k' : ℕ). Pair (g b.number) (g' k') jump low) row b'.number b'.one-of-4 in
+    let row = each 4 (λ (k : ℕ). Each 4 (λ (k' : ℕ). Pair (g k) (g' k') jump low)) all b.number b.one_of_4 in
+    let pair = each 4 (λ (k' : ℕ). Pair (g b.number) (g' k') jump low) row b'.number b'.one_of_4 in
     pair n n' (between (g b.number) (g' b'.number) b.by b'.by)
   where
     between : (g g' : Gate) → By g m n → By g' (m + jump) n' → Between g g' jump n n'
     between g g' h h' = record { weekday = h.weekday; weekday' = h'.weekday; least = omega arith; most = omega arith }
 
 -- twelve months, a common year: rule 2 applies to it, and rule 3 does not to the next
-common-pairs : Pairs (gate (hand 2651 9516) (hand 0 9516)) (gate (hand 0 9516) (hand 0 0)) 9185196 353
-common-pairs = (omega arith, (omega arith, omega arith))
+common_pairs : Pairs (gate (hand 2651 9516) (hand 0 9516)) (gate (hand 0 9516) (hand 0 0)) 9185196 353
+common_pairs = (omega arith, (omega arith, omega arith))
 
-pub after-common : {m n n' : ℕ} → Begins (hand 2651 9516) (hand 0 9516) m n → Begins (hand 0 9516) (hand 0 0) (m + 9185196) n' → Apart 353 n n'
-after-common = apart 9185196 353 common-pairs
+pub after_common : {m n n' : ℕ} → Begins (hand 2651 9516) (hand 0 9516) m n → Begins (hand 0 9516) (hand 0 0) (m + 9185196) n' → Apart 353 n n'
+after_common = apart 9185196 353 common_pairs
 
 -- thirteen, a leap year: rule 2 does not apply to it, and rule 3 does to the next
-leap-pairs : Pairs (gate (hand 2651 0) (hand 0 0)) (gate (hand 2651 9516) (hand 2651 0)) 9950629 383
-leap-pairs = (omega arith, (omega arith, omega arith))
+leap_pairs : Pairs (gate (hand 2651 0) (hand 0 0)) (gate (hand 2651 9516) (hand 2651 0)) 9950629 383
+leap_pairs = (omega arith, (omega arith, omega arith))
 
-pub after-leap : {m n n' : ℕ} → Begins (hand 2651 0) (hand 0 0) m n → Begins (hand 2651 9516) (hand 2651 0) (m + 9950629) n' → Apart 383 n n'
-after-leap = apart 9950629 383 leap-pairs
+pub after_leap : {m n n' : ℕ} → Begins (hand 2651 0) (hand 0 0) m n → Begins (hand 2651 9516) (hand 2651 0) (m + 9950629) n' → Apart 383 n n'
+after_leap = apart 9950629 383 leap_pairs

@@ -7,8 +7,8 @@ use native.Mathlib.Omega.{arith}
 use lib.ListN.{get_or, length}
 use Rattle.counting.specs.Calendar.{total}
 use Rattle.basics.proofs.Cases.{each}
-use Rattle.hebrew.specs.Hebrew.{leap, yearDays, kinds, of_total, lengths}
-use Rattle.hebrew.proofs.Lengths.{year-length}
+use Rattle.hebrew.specs.Hebrew.{leap, year_days, kinds, of_total, lengths}
+use Rattle.hebrew.proofs.Lengths.{year_length}
 
 map_at : {A B : Type 0} (f : A → B) (l : List A) (k : ℕ) (a : A) (b : B) → k < length l → get_or (map f l) k b ≡ f (get_or l k a)
 map_at f [] k a b h = absurd (omega arith)
@@ -21,41 +21,41 @@ map_at f (x ∷ l) (suc k) a b h = map_at f l k a b (omega arith)
 abbrev pub totals : List ℕ
 totals = 353 ∷ 354 ∷ 355 ∷ 383 ∷ 384 ∷ 385 ∷ []
 
-pub row-totals : map total kinds ≡ totals
+pub row_totals : map total kinds ≡ totals
 unfolding total
-row-totals = refl
+row_totals = refl
 
-pub rows-by-total : map (λ (n : ℕ). of_total n kinds) totals ≡ kinds
+pub rows_by_total : map (λ (n : ℕ). of_total n kinds) totals ≡ kinds
 unfolding of_total total
-rows-by-total = refl
+rows_by_total = refl
 
-pub row-lengths : map length kinds ≡ 13 ∷ 13 ∷ 13 ∷ 13 ∷ 13 ∷ 13 ∷ []
-row-lengths = refl
+pub row_lengths : map length kinds ≡ 13 ∷ 13 ∷ 13 ∷ 13 ∷ 13 ∷ 13 ∷ []
+row_lengths = refl
 
 -- ---- the row at k
 
-pub row-total : (k : ℕ) → k < 6 → total (get_or kinds k []) ≡ get_or totals k 0
-row-total k h = sym (map_at total kinds k [] 0 h) ∙ ap (λ l. get_or l k 0) row-totals
+pub row_total : (k : ℕ) → k < 6 → total (get_or kinds k []) ≡ get_or totals k 0
+row_total k h = sym (map_at total kinds k [] 0 h) ∙ ap (λ l. get_or l k 0) row_totals
 
-row-by-total : (k : ℕ) → k < 6 → of_total (get_or totals k 0) kinds ≡ get_or kinds k []
-row-by-total k h = sym (map_at (λ (n : ℕ). of_total n kinds) totals k 0 [] h) ∙ ap (λ l. get_or l k []) rows-by-total
+row_by_total : (k : ℕ) → k < 6 → of_total (get_or totals k 0) kinds ≡ get_or kinds k []
+row_by_total k h = sym (map_at (λ (n : ℕ). of_total n kinds) totals k 0 [] h) ∙ ap (λ l. get_or l k []) rows_by_total
 
-pub row-length : (k : ℕ) → k < 6 → length (get_or kinds k []) ≡ 13
-row-length = each 6 (λ (k : ℕ). length (get_or kinds k []) ≡ 13) (omega arith)
+pub row_length : (k : ℕ) → k < 6 → length (get_or kinds k []) ≡ 13
+row_length = each 6 (λ (k : ℕ). length (get_or kinds k []) ≡ 13) (omega arith)
 
 -- ---- the kind of a length
 
 -- where a kind stands in `kinds`, from whether its years are leap and the days that they have
 unfoldable pub kind_of : Bool → ℕ → ℕ
-kind_of leapNow days = cond leapNow (days - 380) (days - 353)
+kind_of leap_now days = cond leap_now (days - 380) (days - 353)
 
-pub record Kind (leapNow : Bool) (days : ℕ) : Type 0 where
-  pub below : kind_of leapNow days < 6
-  pub place : get_or totals (kind_of leapNow days) 0 ≡ days
+pub record Kind (leap_now : Bool) (days : ℕ) : Type 0 where
+  pub below : kind_of leap_now days < 6
+  pub place : get_or totals (kind_of leap_now days) 0 ≡ days
 
-kind-of : (c : Bool) (days : ℕ) → cond c 383 353 ≤ days → days ≤ cond c 383 353 + 2 → Kind c days
+kind_of_lem : (c : Bool) (days : ℕ) → cond c 383 353 ≤ days → days ≤ cond c 383 353 + 2 → Kind c days
 unfolding kind_of
-kind-of c days a b = let e : cond c 383 353 + (days - cond c 383 353) ≡ days = omega arith in rw e at (at c (days - cond c 383 353) (omega arith))
+kind_of_lem c days a b = let e : cond c 383 353 + (days - cond c 383 353) ≡ days = omega arith in rw e at (at c (days - cond c 383 353) (omega arith))
   where
     at : (c : Bool) (j : ℕ) → j < 3 → Kind c (cond c 383 353 + j)
     at true = each 3 (λ (j : ℕ). Kind true (383 + j)) (omega arith)
@@ -63,15 +63,15 @@ kind-of c days a b = let e : cond c 383 353 + (days - cond c 383 353) ≡ days =
 
 -- ---- the kind of a year
 
-pub year-kind : (y : ℕ) → 1 ≤ y → Kind (leap y) (yearDays y)
-year-kind y h = let a = year-length y h in kind-of (leap y) (yearDays y) (omega arith) (omega arith)
+pub year_kind : (y : ℕ) → 1 ≤ y → Kind (leap y) (year_days y)
+year_kind y h = let a = year_length y h in kind_of_lem (leap y) (year_days y) (omega arith) (omega arith)
 
-pub lengths-row : (y : ℕ) → 1 ≤ y → lengths y ≡ get_or kinds (kind_of (leap y) (yearDays y)) []
+pub lengths_row : (y : ℕ) → 1 ≤ y → lengths y ≡ get_or kinds (kind_of (leap y) (year_days y)) []
 unfolding lengths
-lengths-row y h = let k = year-kind y h in ap (λ (n : ℕ). of_total n kinds) (sym k.place) ∙ row-by-total (kind_of (leap y) (yearDays y)) k.below
+lengths_row y h = let k = year_kind y h in ap (λ (n : ℕ). of_total n kinds) (sym k.place) ∙ row_by_total (kind_of (leap y) (year_days y)) k.below
 
-pub lengths-total : (y : ℕ) → 1 ≤ y → total (lengths y) ≡ yearDays y
-lengths-total y h = let k = year-kind y h in ap total (lengths-row y h) ∙ row-total (kind_of (leap y) (yearDays y)) k.below ∙ k.place
+pub lengths_total : (y : ℕ) → 1 ≤ y → total (lengths y) ≡ year_days y
+lengths_total y h = let k = year_kind y h in ap total (lengths_row y h) ∙ row_total (kind_of (leap y) (year_days y)) k.below ∙ k.place
 
 -- no two totals are the same
 place : ℕ → ℕ
@@ -81,7 +81,7 @@ place_of : (k : ℕ) → k < 6 → place (get_or totals k 0) ≡ k
 unfolding place
 place_of = each 6 (λ (k : ℕ). place (get_or totals k 0) ≡ k) (omega arith)
 
-pub kind-unique : (y k : ℕ) → 1 ≤ y → k < 6 → total (get_or kinds k []) ≡ yearDays y → k ≡ kind_of (leap y) (yearDays y)
-kind-unique y k h b e =
-    let q = year-kind y h in
-    sym (place_of k b) ∙ ap place (sym (row-total k b) ∙ e ∙ sym q.place) ∙ place_of (kind_of (leap y) (yearDays y)) q.below
+pub kind_unique : (y k : ℕ) → 1 ≤ y → k < 6 → total (get_or kinds k []) ≡ year_days y → k ≡ kind_of (leap y) (year_days y)
+kind_unique y k h b e =
+    let q = year_kind y h in
+    sym (place_of k b) ∙ ap place (sym (row_total k b) ∙ e ∙ sym q.place) ∙ place_of (kind_of (leap y) (year_days y)) q.below

@@ -1,11 +1,13 @@
 // The Hebrew calendar, 18: a position of a year, and the date of a day. A year's first day and kind are those of crate gates. Positions are counted from 0.
+#![tactic(auto)]
+
 ghost use Rattle.std.specs.Prelude.{[], ◌≡◌, ◌-◌, ◌≤◌, ◌<◌, pos, get_or};
-ghost use Rattle.counting.specs.Answers.{years, lastDay};
+ghost use Rattle.counting.specs.Answers.{years, last_day};
 ghost use Rattle.hebrew.specs.Hebrew.{kinds};
 ghost use Rattle.hebrew.proofs.Calendar.{YearOf};
 ghost use Rattle.calendar_rules.specs.Calendars.{hebrew};
-ghost use Rattle.months.specs.Parts.{lengthAt, MonthOf, DateIs, PlaceTo};
-ghost use Rattle.months.specs.Hebrew.{HebrewYear, short, monthBefore, monthOf};
+ghost use Rattle.months.specs.Parts.{length_at, MonthOf, DateIs, PlaceTo};
+ghost use Rattle.months.specs.Hebrew.{HebrewYear, short, month_before, month_of};
 
 use gates::Year;
 use parts::{Month, Place};
@@ -58,7 +60,7 @@ fn shortfall(kind: u64) -> u64
 // The days before month q of a year of a kind, whose word is looked up once: two matches on one number would become a jump.
 fn month_before(kind: u64, word: u64, q: u64) -> u64
     requires { (kind < 6) × (word ≡ short kind) × (q < 14) }
-    ensures { result ≡ monthBefore kind q }
+    ensures { result ≡ month_before kind q }
 {
     30 * q - (word >> (4 * q)) % 16
 }
@@ -68,13 +70,13 @@ fn month_before(kind: u64, word: u64, q: u64) -> u64
 // The month of a position: the place that is no month in a common year is not counted.
 fn month_of(l: u64, p: u64) -> u64
     requires { (l ≤ 1) × (p ≤ 12) }
-    ensures { (result ≡ monthOf l p) × (result < 13) }
+    ensures { (result ≡ month_of l p) × (result < 13) }
 {
     parts::pick(6 < p, p + l, p + 1) - 1
 }
 
 pub fn length_at(i: u16, p: u64) -> u64
-    ensures { result ≡ lengthAt hebrew i p }
+    ensures { result ≡ length_at hebrew i p }
 {
     if 12 < p {
         return 0;
@@ -150,7 +152,7 @@ fn year_on(day: u64) -> YearOn
 }
 
 pub fn date_on(day: u32) -> Place
-    ensures { PlaceTo hebrew lastDay day result.year result.month result.day }
+    ensures { PlaceTo hebrew last_day day result.year result.month result.day }
 {
     if 5373484 < day {
         return parts::nowhere();

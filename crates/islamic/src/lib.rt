@@ -1,11 +1,13 @@
 // The Islamic calendars, 12 and 13: eleven leap years in thirty, and months of 30 and 29 days in turn, which lie on the line 59, 2, 1. Positions are counted
 // from 0.
-ghost use Rattle.months.specs.Parts.{LengthIn, MonthOf, PlaceOf, islamicFrom};
+#![tactic(auto)]
+
+ghost use Rattle.months.specs.Parts.{LengthIn, MonthOf, PlaceOf, islamic_from};
 
 use parts::{Month, Place};
 
 pub fn length_at(i: u16, p: u64) -> u64
-    ensures { LengthIn islamicFrom i p result }
+    ensures { LengthIn islamic_from i p result }
 {
     if 11 < p {
         return 0;
@@ -16,7 +18,7 @@ pub fn length_at(i: u16, p: u64) -> u64
 
 // A position of the year that is i years after the first.
 pub fn month_at(first: u32, i: u16, p: u64) -> Month
-    ensures { MonthOf (islamicFrom first) i p result.start result.days }
+    ensures { MonthOf (islamic_from first) i p result.start result.days }
 {
     if 11 < p {
         return Month { start: 0, days: 0 };
@@ -29,7 +31,7 @@ pub fn month_at(first: u32, i: u16, p: u64) -> Month
 
 // The date of a day. The quotient is held to the last position, for the last day of a leap year.
 pub fn date_on(first: u32, day: u32) -> Place
-    ensures { PlaceOf (islamicFrom first) day result.year result.month result.day }
+    ensures { PlaceOf (islamic_from first) day result.year result.month result.day }
 {
     if day < first {
         return parts::nowhere();

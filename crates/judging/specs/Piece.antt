@@ -2,7 +2,7 @@
 use Rattle.std.specs.Prelude.{◌≡◌, List, [], ◌∷◌, ◌++◌, ℕ, ◌/◌, min, length, take, drop}
 use Rattle.streaming.specs.Pieces.{after, answers}
 use Rattle.carrying.specs.declared.Unfinished.{Unfinished}
-use Rattle.carrying.specs.Kept.{most, keptOf}
+use Rattle.carrying.specs.Kept.{most, kept_of}
 use Rattle.replying.specs.Sheet.{reply, judging}
 use Rattle.judging.specs.declared.Progress.{Progress}
 use Rattle.judging.specs.declared.Ending.{Ending}
@@ -15,11 +15,11 @@ taken piece out = take (min (length piece) (length out / 3)) piece
 -- Of the next state what it keeps is said: the bytes past its count mean nothing, and nothing reads them.
 pub record Judged (u : Unfinished) (input out : List ℕ) (r : Progress) (out' : List ℕ) : Type 0 where
   pub consumed : r.consumed ≡ length input
-  pub written : r.written ≡ length (answers judging tt (keptOf u) input)
-  pub buffer : out' ≡ answers judging tt (keptOf u) input ++ drop r.written out
-  pub state : keptOf r.state ≡ take most (after (keptOf u) input)
+  pub written : r.written ≡ length (answers judging tt (kept_of u) input)
+  pub buffer : out' ≡ answers judging tt (kept_of u) input ++ drop r.written out
+  pub state : kept_of r.state ≡ take most (after (kept_of u) input)
 
 -- what the end of the input adds: nothing where no line is unfinished
-unfoldable pub endingOf : List ℕ → Ending
-endingOf [] = record { bytes = 0 ∷ 0 ∷ 0 ∷ []; count = 0 }
-endingOf (b ∷ line) = record { bytes = reply (b ∷ line); count = 3 }
+unfoldable pub ending_of : List ℕ → Ending
+ending_of [] = record { bytes = 0 ∷ 0 ∷ 0 ∷ []; count = 0 }
+ending_of (b ∷ line) = record { bytes = reply (b ∷ line); count = 3 }

@@ -1,10 +1,12 @@
 // A sheet judged piece by piece in lent buffers: lines that are cut, the answers to those that end, what the end of the input adds.
 // `proofs/Claims.antt` is the page to read first.
+#![tactic(auto)]
+
 mod lines;
 
 ghost use Rattle.std.specs.Prelude.{◌≡◌, ◌*◌, ◌≤◌, min, length};
-ghost use Rattle.carrying.specs.Kept.{keptOf};
-ghost use Rattle.judging.specs.Piece.{taken, Judged, endingOf};
+ghost use Rattle.carrying.specs.Kept.{kept_of};
+ghost use Rattle.judging.specs.Piece.{taken, Judged, ending_of};
 
 use carrying::Unfinished;
 use lines::{put, take_frames, take_line};
@@ -67,7 +69,7 @@ pub struct Ending {
 }
 
 pub fn finish(state: Unfinished) -> Ending
-    ensures { result ≡ endingOf (keptOf state) }
+    ensures { result ≡ ending_of (kept_of state) }
 {
     let mut bytes = [0u8; 3];
     if state.count == 0 {

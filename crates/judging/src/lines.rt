@@ -10,8 +10,8 @@ pub(crate) fn put(out: &mut [u8], at: usize, n: u8)
     requires { at + 3 ≤ length out.old }
     ensures { Put n at out.old out.new }
 {
-    let high = hex::byte(n / 16);
-    let low = hex::byte(n);
+    let high = hex_digits::byte(n / 16);
+    let low = hex_digits::byte(n);
     out[at] = high;
     out[at + 1] = low;
     out[at + 2] = b'\n';

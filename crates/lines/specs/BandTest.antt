@@ -1,4 +1,4 @@
--- For code: nobody has to believe this page. How `fitOf` of specs/Fit.antt finds its answer: each denominator from 1 to the number of lengths is put to the
+-- For code: nobody has to believe this page. How `fit_of` of specs/Fit.antt finds its answer: each denominator from 1 to the number of lengths is put to the
 -- band test (source 004, part V). `proofs/Claims.antt` says what the answer means over all lines.
 use Rattle.std.specs.Prelude.{Bool, cond, ◌&&◌, List, ℕ, zero, suc, ◌+◌, ◌*◌, ◌-◌, max, leb, ltb, length, get_or}
 use Rattle.std.proofs.Math.Option.{Option, none, some}

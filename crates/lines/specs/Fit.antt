@@ -1,5 +1,5 @@
 -- The answer of fitting, that is of recognising a digital straight line: the line with the least denominator that generates a code, or the number of a
--- refusal. `fitOf` computes it; `proofs/Claims.antt` says what it means over all lines.
+-- refusal. `fit_of` computes it; `proofs/Claims.antt` says what it means over all lines.
 use Rattle.std.specs.Prelude.{cond, List, ℕ, ◌≤◌, ◌<◌, ℤ, pos, negsuc, length, get_or}
 use Rattle.std.proofs.Math.Option.{Option, none, some}
 use Rattle.lines.specs.Line.{Line, Generates}
@@ -49,5 +49,5 @@ unfoldable pub answer_of : List ℕ → Option ℕ → Answer
 answer_of code none = refused 7
 answer_of code (some b) = line (sum_to code b) b (offset_of code b)
 
-unfoldable pub fitOf : List ℕ → Answer
-fitOf code = cond (within code) (answer_of code (first (passes code) (length code) 1)) (refused 6)
+unfoldable pub fit_of : List ℕ → Answer
+fit_of code = cond (within code) (answer_of code (first (passes code) (length code) 1)) (refused 6)

@@ -1,7 +1,9 @@
 // Which numbers are a calendar's, which years it may have, its strip and its last day: what the questions to the calendars try alike.
+#![tactic(auto)]
+
 ghost use Rattle.std.specs.Prelude.{◌≡◌, ◌≤◌};
-ghost use Rattle.counting.specs.Answers.{lastDay, last_of};
-ghost use Rattle.asking.specs.Steps.{listed, OfListed, stripOr0, packedNone, yearInside, yearsSince};
+ghost use Rattle.counting.specs.Answers.{last_day, last_of};
+ghost use Rattle.asking.specs.Steps.{listed, OfListed, strip_or0, packed_none, year_inside, years_since};
 
 const FIRST_YEAR: i64 = -4712;
 
@@ -24,7 +26,7 @@ pub fn is_listed(c: u64) -> bool
 
 // The first year of a calendar that is listed.
 pub fn first_year(c: u64) -> i64
-    ensures { OfListed c (λ K. result ≡ K.firstYear) }
+    ensures { OfListed c (λ K. result ≡ K.first_year) }
 {
     if (c == 10) | (c == 11) {
         return FIRST_YEAR;
@@ -34,7 +36,7 @@ pub fn first_year(c: u64) -> i64
 
 // The last day that has a date in a calendar that is listed.
 pub fn last_day(c: u64) -> u64
-    ensures { (result ≤ lastDay) × OfListed c (λ K. result ≡ last_of K) }
+    ensures { (result ≤ last_day) × OfListed c (λ K. result ≡ last_of K) }
 {
     if c == 7 {
         return REPUBLICAN_END;
@@ -44,7 +46,7 @@ pub fn last_day(c: u64) -> u64
 
 // The position that is a strip of loose days in a calendar that is listed; 0 where it has none.
 pub fn strip(c: u64) -> u64
-    ensures { OfListed c (λ K. result ≡ stripOr0 K.strip) }
+    ensures { OfListed c (λ K. result ≡ strip_or0 K.strip) }
 {
     // Persian
     if c == 4 {
@@ -63,14 +65,14 @@ pub fn strip(c: u64) -> u64
 
 // Whether some calendar may have such a year.
 pub fn year_inside(year: i64) -> bool
-    ensures { result ≡ yearInside year }
+    ensures { result ≡ year_inside year }
 {
     !((year < FIRST_YEAR) | (LAST_YEAR < year))
 }
 
 // The years from -4712 to such a year, and 0 to any other. With the Hebrew years, the one place where signed years become natural numbers.
 pub fn since(year: i64) -> u16
-    ensures { result ≡ yearsSince year }
+    ensures { result ≡ years_since year }
 {
     if year_inside(year) {
         return (year - FIRST_YEAR) as u16;
@@ -80,7 +82,7 @@ pub fn since(year: i64) -> u16
 
 // Why a year has no position that was sought: 1, 2 or 3, whichever is first, 2^32 high.
 pub fn no_month(c: u64, year: i64) -> u64
-    ensures { result ≡ packedNone c year }
+    ensures { result ≡ packed_none c year }
 {
     if !is_listed(c) {
         return 0x1_0000_0000;

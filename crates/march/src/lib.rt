@@ -1,10 +1,12 @@
 // The calendars that are counted from March, where the leap day is the last: 8 to 10 with every fourth year leap, 11 by the Gregorian rule. Years are counted
 // from March of -4800; months lie on the line 153, 5, 2. Positions are counted from 0.
+#![tactic(auto)]
+
 ghost use Rattle.std.specs.Prelude.{cond, ◌||◌, ◌≡◌, ◌+◌, ◌-◌, ◌*◌, ◌/◌, ◌%◌, ◌^◌, ◌≤◌, ◌<◌, eqb, ltb, get_or};
 ghost use Rattle.calendar_rules.specs.Calendars.{macedonian, syrian, julian, gregorian};
-ghost use Rattle.months.specs.Leap.{gregorianLong};
-ghost use Rattle.months.specs.March.{julianStart, julianYears, julianFirst, MarchDate, JulianDate, monthLength};
-ghost use Rattle.months.specs.Parts.{lengthAt, MonthIs, MonthOf, PlaceOf, PackedAt};
+ghost use Rattle.months.specs.Leap.{gregorian_long};
+ghost use Rattle.months.specs.March.{julian_start, julian_years, julian_first, MarchDate, JulianDate, month_length};
+ghost use Rattle.months.specs.Parts.{length_at, MonthIs, MonthOf, PlaceOf, PackedAt};
 
 use parts::{Month, Place};
 
@@ -39,7 +41,7 @@ fn month_length(february: u64, q: u64) -> u64
 
 fn kind_length(z0: u32, turn: u64, i: u16, p: u64) -> u64
     requires { turn < 12 }
-    ensures { result ≡ get_or (julianYears z0 turn i) p 0 }
+    ensures { result ≡ get_or (julian_years z0 turn i) p 0 }
 {
     if 11 < p {
         return 0;
@@ -51,8 +53,8 @@ fn kind_length(z0: u32, turn: u64, i: u16, p: u64) -> u64
 
 // A position of the year that is i years after the first.
 fn kind_month(z0: u32, turn: u64, i: u16, p: u64) -> Month
-    requires { (turn < 12) × (32082 ≤ julianStart z0 + (153 * turn + 2) / 5) }
-    ensures { MonthIs (julianYears z0 turn) (julianFirst z0 turn) i p result.start result.days }
+    requires { (turn < 12) × (32082 ≤ julian_start z0 + (153 * turn + 2) / 5) }
+    ensures { MonthIs (julian_years z0 turn) (julian_first z0 turn) i p result.start result.days }
 {
     if 11 < p {
         return Month { start: 0, days: 0 };
@@ -90,7 +92,7 @@ fn kind_date(before: i32, turn: u64, q: u64) -> Place
 }
 
 pub fn macedonian_length(i: u16, p: u64) -> u64
-    ensures { result ≡ lengthAt macedonian i p }
+    ensures { result ≡ length_at macedonian i p }
 {
     kind_length(4489, 6, i, p)
 }
@@ -111,7 +113,7 @@ pub fn macedonian_date(day: u32) -> Place
 }
 
 pub fn syrian_length(i: u16, p: u64) -> u64
-    ensures { result ≡ lengthAt syrian i p }
+    ensures { result ≡ length_at syrian i p }
 {
     kind_length(4489, 7, i, p)
 }
@@ -132,7 +134,7 @@ pub fn syrian_date(day: u32) -> Place
 }
 
 pub fn julian_length(i: u16, p: u64) -> u64
-    ensures { result ≡ lengthAt julian i p }
+    ensures { result ≡ length_at julian i p }
 {
     kind_length(87, 10, i, p)
 }
@@ -152,7 +154,7 @@ pub fn julian_date(day: u32) -> Place
 // ---- Gregorian
 
 pub fn gregorian_length(i: u16, p: u64) -> u64
-    ensures { result ≡ lengthAt gregorian i p }
+    ensures { result ≡ length_at gregorian i p }
 {
     if 11 < p {
         return 0;
@@ -165,7 +167,7 @@ pub fn gregorian_length(i: u16, p: u64) -> u64
 // Whether month q has no such day: the century rule is looked at only for a 29 February.
 fn no_day(z: u32, q: u64, day: u64) -> bool
     requires { q < 12 }
-    ensures { result ≡ (eqb day 0 || ltb (monthLength (gregorianLong z) q) day) }
+    ensures { result ≡ (eqb day 0 || ltb (month_length (gregorian_long z) q) day) }
 {
     let usual = parts::pick(q == 11, 28, 30 + (0x6b5 >> q) % 2);
     if (day != 0) & (day <= usual) {

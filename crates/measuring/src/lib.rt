@@ -1,14 +1,16 @@
 // The length of a position in a year. The families of calendars are crates of their own; here each calendar is given its family.
+#![tactic(auto)]
+
 ghost use Rattle.std.specs.Prelude.{◌≡◌, ◌≤◌, negsuc};
-ghost use Rattle.counting.specs.Years.{yearAt};
-ghost use Rattle.calendar_rules.specs.Answers.{positionAnswer};
-ghost use Rattle.months.specs.Parts.{lengthAt};
+ghost use Rattle.counting.specs.Years.{year_at};
+ghost use Rattle.calendar_rules.specs.Answers.{position_answer};
+ghost use Rattle.months.specs.Parts.{length_at};
 ghost use Rattle.asking.specs.Steps.{Answered, Sought};
 
 // The length of a position, counted from 0, of the year that is i years after year 1, in the calendars that begin with that year; 0 where there is none.
 fn later_length(c: u64, i: u16, p: u64) -> u64
     requires { (c ≡ 10 → ⊥) × (c ≡ 11 → ⊥) }
-    ensures { Answered c (λ K. result ≡ lengthAt K i p) result }
+    ensures { Answered c (λ K. result ≡ length_at K i p) result }
 {
     match c {
         // Egyptian
@@ -46,7 +48,7 @@ fn later_length(c: u64, i: u16, p: u64) -> u64
 // The same of the year that is y years after -4712, in any calendar.
 fn length_in(c: u64, y: u16, p: u64) -> u64
     requires { y ≤ 24712 }
-    ensures { Sought c (yearAt (negsuc 4711) y) (λ K i. result ≡ lengthAt K i p) result }
+    ensures { Sought c (year_at (negsuc 4711) y) (λ K i. result ≡ length_at K i p) result }
 {
     if c == 10 {
         return march::julian_length(y, p);
@@ -62,7 +64,7 @@ fn length_in(c: u64, y: u16, p: u64) -> u64
 
 // The length of a position in a year; 0 where it is none or refused.
 pub fn days(calendar: u64, year: i64, position: u64) -> u64
-    ensures { result ≡ (positionAnswer calendar year position).days }
+    ensures { result ≡ (position_answer calendar year position).days }
 {
     if listing::year_inside(year) {
         if position == 0 {

@@ -13,19 +13,19 @@ use lib.ListN.{length, take, get_or}
 use lib.Seq.{length-take-le, take-take, take_all}
 use borrow.Author.Tests.{eqb-true}
 use Rattle.basics.specs.Every.{every}
-use Rattle.basics.proofs.Every.{every-at}
+use Rattle.basics.proofs.Every.{every_at}
 use Rattle.lines.specs.Line.{natural, yields, Generates}
 use Rattle.lines.specs.BandTest.{sum_to}
-use Rattle.lines.specs.Marks.{markAt}
-use Rattle.lines.proofs.Marks.{last_at, mark-le, mark-between, yields-natural}
-use Rattle.lines.proofs.Normal.{band-of-natural}
+use Rattle.lines.specs.Marks.{mark_at}
+use Rattle.lines.proofs.Marks.{last_at, mark_le, mark_between, yields_natural}
+use Rattle.lines.proofs.Normal.{band_of_natural}
 use Rattle.counting.specs.Calendar.{total}
-use Rattle.counting.proofs.Totals.{total-take-suc}
-use Rattle.months.specs.Lines.{butLast, quotient, InPosition}
+use Rattle.counting.proofs.Totals.{total_take_suc}
+use Rattle.months.specs.Lines.{but_last, quotient, InPosition}
 
 -- the line a, b, r yields the lengths of ls before the last
 pub record OnLine (a b r : ℕ) (ls : List ℕ) : Type 0 where
-  pub yields : Generates (natural a b r) (butLast ls)
+  pub yields : Generates (natural a b r) (but_last ls)
   pub rising : 0 < a
   pub low : r < b
   pub any : 0 < length ls
@@ -33,58 +33,58 @@ pub record OnLine (a b r : ℕ) (ls : List ℕ) : Type 0 where
 -- ---- a computed test of it: at each place before the last the mark grows by the length there
 
 unfoldable pub grows : ℕ → ℕ → ℕ → List ℕ → Bool
-grows a b r ls = every (λ k. eqb (markAt a b r (suc k)) (get_or (butLast ls) k 0 + markAt a b r k)) (length (butLast ls))
+grows a b r ls = every (λ k. eqb (mark_at a b r (suc k)) (get_or (but_last ls) k 0 + mark_at a b r k)) (length (but_last ls))
 
 pub on_line : (a b r : ℕ) (ls : List ℕ) → 0 < a → r < b → 0 < length ls → grows a b r ls ≡ true → OnLine a b r ls
 unfolding grows
 on_line a b r ls ha hr hl t = record { yields = record { proper = omega arith; each = each }; rising = ha; low = hr; any = hl }
   where
-    each : (k : ℕ) → k < length (butLast ls) → yields (natural a b r) k ≡ pos (get_or (butLast ls) k 0)
-    each k h = yields-natural a b r k (get_or (butLast ls) k 0) (eqb-true _ _ (every-at _ (length (butLast ls)) t k h))
+    each : (k : ℕ) → k < length (but_last ls) → yields (natural a b r) k ≡ pos (get_or (but_last ls) k 0)
+    each k h = yields_natural a b r k (get_or (but_last ls) k 0) (eqb-true _ _ (every_at _ (length (but_last ls)) t k h))
 
 -- ---- the law
 
 sum_is : (ls : List ℕ) (k : ℕ) → sum_to ls k ≡ total (take k ls)
 unfolding sum_to total
 sum_is ls zero = refl
-sum_is ls (suc k) = omega (arith, sum_is ls k, total-take-suc k ls)
+sum_is ls (suc k) = omega (arith, sum_is ls k, total_take_suc k ls)
 
 module _ {a b r : ℕ} {ls : List ℕ} (o : OnLine a b r ls) where
   -- the days before a position
-  pub before-mark : (k : ℕ) → k ≤ length ls - 1 → total (take k ls) ≡ markAt a b r k
-  unfolding markAt
-  before-mark k h =
-      let B = band-of-natural o.low o.yields in
-      let l : length (butLast ls) ≡ length ls - 1 = length-take-le (length ls - 1) ls (omega arith) in
-      let t : sum_to (butLast ls) k ≡ total (take k ls) = sum_is (butLast ls) k ∙ ap total (take-take k (length ls - 1) ls h) in
+  pub before_mark : (k : ℕ) → k ≤ length ls - 1 → total (take k ls) ≡ mark_at a b r k
+  unfolding mark_at
+  before_mark k h =
+      let B = band_of_natural o.low o.yields in
+      let l : length (but_last ls) ≡ length ls - 1 = length-take-le (length ls - 1) ls (omega arith) in
+      let t : sum_to (but_last ls) k ≡ total (take k ls) = sum_is (but_last ls) k ∙ ap total (take-take k (length ls - 1) ls h) in
       let x = B.above k (omega arith) in
       let y = B.below k (omega arith) in
-      let m = mul_comm b (sum_to (butLast ls) k) in
-      sym t ∙ sym (div-eq_of_lt-le b (omega arith) (omega (arith, suc-mul (sum_to (butLast ls) k) b)))
+      let m = mul_comm b (sum_to (but_last ls) k) in
+      sym t ∙ sym (div-eq_of_lt-le b (omega arith) (omega (arith, suc-mul (sum_to (but_last ls) k) b)))
 
   -- the day's position
-  pub by-line : (n : ℕ) → n < total ls → InPosition ls n (quotient a b r (length ls) n)
+  pub by_line_lem : (n : ℕ) → n < total ls → InPosition ls n (quotient a b r (length ls) n)
   unfolding last_at
-  by-line n h = go (dec_lt (last_at a b r n) (length ls - 1))
+  by_line_lem n h = go (dec_lt (last_at a b r n) (length ls - 1))
     where
       here : (q : ℕ) → quotient a b r (length ls) n ≡ q → InPosition ls n q → InPosition ls n (quotient a b r (length ls) n)
       here q e i = rw e i
 
       go : Dec (last_at a b r n < length ls - 1) → InPosition ls n (quotient a b r (length ls) n)
       go (yes l) =
-          let m = mark-between a b r n o.rising o.low in
+          let m = mark_between a b r n o.rising o.low in
           here (last_at a b r n) (omega arith)
           (record {
             inside = omega arith;
-            begun = omega (arith, before-mark (last_at a b r n) (omega arith));
-            still = omega (arith, before-mark (suc (last_at a b r n)) (omega arith));
+            begun = omega (arith, before_mark (last_at a b r n) (omega arith));
+            still = omega (arith, before_mark (suc (last_at a b r n)) (omega arith));
           })
       go (no l) =
-          let m = (mark-le a b r n (length ls - 1) o.rising o.low).1 (omega arith) in
+          let m = (mark_le a b r n (length ls - 1) o.rising o.low).1 (omega arith) in
           let e : suc (length ls - 1) ≡ length ls = omega (arith, o.any) in
           here (length ls - 1) (omega arith)
           (record {
             inside = omega (arith, o.any);
-            begun = omega (arith, before-mark (length ls - 1) (omega arith));
+            begun = omega (arith, before_mark (length ls - 1) (omega arith));
             still = rw e (rw (take_all (length ls) ls (omega arith)) h);
           })

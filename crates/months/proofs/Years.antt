@@ -7,13 +7,13 @@ use Prim.Native.Nat.{ℕ, ◌+◌, ◌-◌, ◌*◌, ◌/◌, ◌%◌, ◌≤◌
 use native.Mathlib.Omega.{arith}
 use lib.Dec.{eqb, ltb, leb}
 use borrow.Author.Tests.{eqb-true, eqb-false, lt-ltb, le-ltb, leb-true, leb-false}
-use Rattle.basics.proofs.Cases.{cond-elim}
-use Rattle.lines.specs.Marks.{markAt}
+use Rattle.basics.proofs.Cases.{cond_elim}
+use Rattle.lines.specs.Marks.{mark_at}
 use Rattle.lines.proofs.Marks.{last_at, carry}
 use Rattle.counting.specs.Calendar.{total, start}
 use Rattle.counting.specs.InYear.{InYear}
-use Rattle.counting.proofs.Starts.{even-start, year-by-mark}
-use Rattle.months.specs.Leap.{yearsBy, Common, fourthLeap, islamicLeapAt}
+use Rattle.counting.proofs.Starts.{even_start, year_by_mark}
+use Rattle.months.specs.Leap.{years_by, Common, fourth_leap, islamic_leap_at}
 
 -- ---- common and leap years
 
@@ -22,9 +22,9 @@ flag true = omega arith
 flag false = omega arith
 
 -- as a number that comes out of a division
-pub by-fours : (x : ℕ) → (x % 4 + 1) / 4 ≡ cond (eqb (x % 4) 3) 1 0
-by-fours x =
-    cond-elim (λ (n : ℕ). (x % 4 + 1) / 4 ≡ n) (eqb (x % 4) 3) 1 0 (λ h. omega (arith, eqb-true (x % 4) 3 h)) (λ h. omega (arith, eqb-false (x % 4) 3 h))
+pub by_fours : (x : ℕ) → (x % 4 + 1) / 4 ≡ cond (eqb (x % 4) 3) 1 0
+by_fours x =
+    cond_elim (λ (n : ℕ). (x % 4 + 1) / 4 ≡ n) (eqb (x % 4) 3) 1 0 (λ h. omega (arith, eqb-true (x % 4) 3 h)) (λ h. omega (arith, eqb-false (x % 4) 3 h))
 
 pub none_of : (t : Bool) → eqb (cond t 1 0) 0 ≡ not t
 none_of true = refl
@@ -36,13 +36,13 @@ one_more true a = refl
 one_more false a = omega arith
 
 module _ {days : ℕ} {positions : Bool → List ℕ} (c : Common days positions) where
-  pub days-by : (t : Bool) → total (positions t) ≡ days + cond t 1 0
-  days-by true = c.leap
-  days-by false = omega (arith, c.common)
+  pub days_by : (t : Bool) → total (positions t) ≡ days + cond t 1 0
+  days_by true = c.leap
+  days_by false = omega (arith, c.common)
 
-  pub year-days : (leap : ℕ → Bool) (i : ℕ) → total (yearsBy positions leap i) ≡ days + cond (leap i) 1 0
-  unfolding yearsBy
-  year-days leap i = days-by (leap i)
+  pub year_days_lem : (leap : ℕ → Bool) (i : ℕ) → total (years_by positions leap i) ≡ days + cond (leap i) 1 0
+  unfolding years_by
+  year_days_lem leap i = days_by (leap i)
 
 -- opposite tests
 opposite : (t u : Bool) → (t ≡ true → u ≡ false) → (t ≡ false → u ≡ true) → ◌≡◌ {A = ℕ} (cond t 1 0) (cond u 0 1)
@@ -56,57 +56,57 @@ unfolding carry
 never i = rw (lt-ltb ((0 * i + 0) % 1 + 0) 1 (omega arith)) refl
 
 module _ (L : ℕ → List ℕ) (days : (i : ℕ) → total (L i) ≡ 365) where
-  plain-mark : (i : ℕ) → start L i ≡ markAt 365 1 0 i
-  plain-mark = even-start L 365 0 1 0 (omega arith) (omega arith) (λ i. omega (arith, days i, never i))
+  plain_mark : (i : ℕ) → start L i ≡ mark_at 365 1 0 i
+  plain_mark = even_start L 365 0 1 0 (omega arith) (omega arith) (λ i. omega (arith, days i, never i))
 
-  pub plain-start : (i : ℕ) → start L i ≡ 365 * i
-  unfolding markAt
-  plain-start i = omega (arith, plain-mark i)
+  pub plain_start : (i : ℕ) → start L i ≡ 365 * i
+  unfolding mark_at
+  plain_start i = omega (arith, plain_mark i)
 
   pub plain_in : (n : ℕ) → InYear L n (n / 365)
   unfolding last_at
   plain_in n =
       let y : (1 * n + (1 - 1 - 0)) / 365 ≡ n / 365 = omega arith in
-      rw y at (year-by-mark L 365 1 0 (omega arith) (omega arith) plain-mark n)
+      rw y at (year_by_mark L 365 1 0 (omega arith) (omega arith) plain_mark n)
 
 -- ---- one year in four
 
-fourth-carry : (p i : ℕ) → cond (fourthLeap p i) 1 0 ≡ carry 1 4 p i
+fourth_carry : (p i : ℕ) → cond (fourth_leap p i) 1 0 ≡ carry 1 4 p i
 unfolding carry
-fourth-carry p i =
+fourth_carry p i =
     opposite (eqb ((i + p) % 4) 3) (ltb ((1 * i + p) % 4 + 1) 4)
     (λ h. le-ltb ((1 * i + p) % 4 + 1) 4 (omega (arith, eqb-true ((i + p) % 4) 3 h)))
     (λ h. lt-ltb ((1 * i + p) % 4 + 1) 4 (omega (arith, eqb-false ((i + p) % 4) 3 h)))
 
-module _ (L : ℕ → List ℕ) (p : ℕ) (h : p < 4) (days : (i : ℕ) → total (L i) ≡ 365 + cond (fourthLeap p i) 1 0) where
-  fourth-mark : (i : ℕ) → start L i ≡ markAt 1461 4 p i
-  fourth-mark = even-start L 365 1 4 p (omega arith) h (λ i. omega (arith, days i, fourth-carry p i))
+module _ (L : ℕ → List ℕ) (p : ℕ) (h : p < 4) (days : (i : ℕ) → total (L i) ≡ 365 + cond (fourth_leap p i) 1 0) where
+  fourth_mark : (i : ℕ) → start L i ≡ mark_at 1461 4 p i
+  fourth_mark = even_start L 365 1 4 p (omega arith) h (λ i. omega (arith, days i, fourth_carry p i))
 
-  pub fourth-start : (i : ℕ) → start L i ≡ 365 * i + (i + p) / 4
-  unfolding markAt
-  fourth-start i = omega (arith, fourth-mark i)
+  pub fourth_start : (i : ℕ) → start L i ≡ 365 * i + (i + p) / 4
+  unfolding mark_at
+  fourth_start i = omega (arith, fourth_mark i)
 
-  pub fourth-in : (n : ℕ) → InYear L n ((4 * n + (3 - p)) / 1461)
+  pub fourth_in : (n : ℕ) → InYear L n ((4 * n + (3 - p)) / 1461)
   unfolding last_at
-  fourth-in n = year-by-mark L 1461 4 p (omega arith) h fourth-mark n
+  fourth_in n = year_by_mark L 1461 4 p (omega arith) h fourth_mark n
 
 -- ---- 11 years in 30
 
-islamic-carry : (i : ℕ) → cond (islamicLeapAt i) 1 0 ≡ carry 11 30 14 i
+islamic_carry : (i : ℕ) → cond (islamic_leap_at i) 1 0 ≡ carry 11 30 14 i
 unfolding carry
-islamic-carry i =
+islamic_carry i =
     opposite (leb 19 ((11 * i + 14) % 30)) (ltb ((11 * i + 14) % 30 + 11) 30)
     (λ h. le-ltb ((11 * i + 14) % 30 + 11) 30 (omega (arith, leb-true 19 ((11 * i + 14) % 30) h)))
     (λ h. lt-ltb ((11 * i + 14) % 30 + 11) 30 (omega (arith, leb-false 19 ((11 * i + 14) % 30) h)))
 
-module _ (L : ℕ → List ℕ) (days : (i : ℕ) → total (L i) ≡ 354 + cond (islamicLeapAt i) 1 0) where
-  islamic-mark : (i : ℕ) → start L i ≡ markAt 10631 30 14 i
-  islamic-mark = even-start L 354 11 30 14 (omega arith) (omega arith) (λ i. omega (arith, days i, islamic-carry i))
+module _ (L : ℕ → List ℕ) (days : (i : ℕ) → total (L i) ≡ 354 + cond (islamic_leap_at i) 1 0) where
+  islamic_mark : (i : ℕ) → start L i ≡ mark_at 10631 30 14 i
+  islamic_mark = even_start L 354 11 30 14 (omega arith) (omega arith) (λ i. omega (arith, days i, islamic_carry i))
 
-  pub islamic-start : (i : ℕ) → start L i ≡ (10631 * i + 14) / 30
-  unfolding markAt
-  islamic-start i = omega (arith, islamic-mark i)
+  pub islamic_start : (i : ℕ) → start L i ≡ (10631 * i + 14) / 30
+  unfolding mark_at
+  islamic_start i = omega (arith, islamic_mark i)
 
-  pub islamic-in : (n : ℕ) → InYear L n ((30 * n + 15) / 10631)
+  pub islamic_in : (n : ℕ) → InYear L n ((30 * n + 15) / 10631)
   unfolding last_at
-  islamic-in n = year-by-mark L 10631 30 14 (omega arith) (omega arith) islamic-mark n
+  islamic_in n = year_by_mark L 10631 30 14 (omega arith) (omega arith) islamic_mark n

@@ -3,30 +3,30 @@ use Rattle.std.specs.Prelude.{Bool, cond, List, [], ◌∷◌, ◌++◌, ℕ, �
 use Rattle.calendar_rules.specs.Calendars.{◌or◌}
 
 -- 19 of 19, then 4 or 5
-abbrev pub fromLast : Bool → List ℕ
-fromLast leap = replicate 19 19 ++ (4 or 5) leap ∷ []
+abbrev pub from_last : Bool → List ℕ
+from_last leap = replicate 19 19 ++ (4 or 5) leap ∷ []
 
-abbrev pub bahaiBefore : ℕ → ℕ
-bahaiBefore q = 19 * q
+abbrev pub bahai_before : ℕ → ℕ
+bahai_before q = 19 * q
 
 -- the position of a day, without division
-abbrev pub bahaiOf : ℕ → ℕ
-bahaiOf rest = 27 * rest / 512
+abbrev pub bahai_of : ℕ → ℕ
+bahai_of rest = 27 * rest / 512
 
 -- 5 of 31, 6 of 30, then 30 or 31
-abbrev pub fromSecond : Bool → List ℕ
-fromSecond leap = replicate 5 31 ++ replicate 6 30 ++ (30 or 31) leap ∷ []
+abbrev pub from_second : Bool → List ℕ
+from_second leap = replicate 5 31 ++ replicate 6 30 ++ (30 or 31) leap ∷ []
 
-abbrev pub sakaBefore : ℕ → ℕ
-sakaBefore q = 30 * q + cond (ltb q 5) q 5
+abbrev pub saka_before : ℕ → ℕ
+saka_before q = 30 * q + cond (ltb q 5) q 5
 
 -- the month of a day, from 2 to 13, without division
-abbrev pub sakaMonth : ℕ → ℕ
-sakaMonth rest = cond (ltb rest 155) (33 * rest + 2052) (34 * rest + 1922) / 1024
+abbrev pub saka_month : ℕ → ℕ
+saka_month rest = cond (ltb rest 155) (33 * rest + 2052) (34 * rest + 1922) / 1024
 
-abbrev pub sakaOf : ℕ → ℕ
-sakaOf rest = sakaMonth rest - 2
+abbrev pub saka_of : ℕ → ℕ
+saka_of rest = saka_month rest - 2
 
 -- the length of position p of the calendar's year, by the year that it is counted in
-abbrev pub sakaLength : Bool → ℕ → ℕ
-sakaLength t p = cond (eqb p 0) (30 + cond t 1 0) (cond (ltb p 6) 31 30)
+abbrev pub saka_length : Bool → ℕ → ℕ
+saka_length t p = cond (eqb p 0) (30 + cond t 1 0) (cond (ltb p 6) 31 30)

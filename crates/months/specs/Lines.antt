@@ -5,15 +5,15 @@ use Rattle.lines.specs.Line.{natural, Generates}
 use Rattle.counting.specs.Calendar.{total}
 use Rattle.counting.specs.Answers.{Calendar, years}
 use Rattle.calendar_rules.specs.Calendars.{egyptian, armenian, khwarizmian, ethiopian, coptic, republican, macedonian, syrian, julian, gregorian}
-use Rattle.calendar_rules.specs.Calendars.{islamicA, islamicB}
+use Rattle.calendar_rules.specs.Calendars.{islamic_a, islamic_b}
 
 -- the lengths before the last
-abbrev pub butLast : List ℕ → List ℕ
-butLast ls = take (length ls - 1) ls
+abbrev pub but_last : List ℕ → List ℕ
+but_last ls = take (length ls - 1) ls
 
 -- the years counted from a later position: those of year i from position k on, and then the next year's before it
-unfoldable pub turnedBy : ℕ → (ℕ → List ℕ) → ℕ → List ℕ
-turnedBy k L i = drop k (L i) ++ take k (L (suc i))
+unfoldable pub turned_by : ℕ → (ℕ → List ℕ) → ℕ → List ℕ
+turned_by k L i = drop k (L i) ++ take k (L (suc i))
 
 -- a calendar, the position that its years are counted from, and the line a, b, r
 pub record ByLine : Type 0 where
@@ -25,31 +25,31 @@ pub record ByLine : Type 0 where
 
 -- the lengths of a year so counted
 abbrev pub lengths : ByLine → ℕ → List ℕ
-lengths x i = turnedBy x.from (years x.calendar) i
+lengths x i = turned_by x.from (years x.calendar) i
 
-abbrev pub byLine : Calendar → ℕ → ℕ → ℕ → ℕ → ByLine
-byLine K k a b r = record { calendar = K; from = k; a = a; b = b; r = r }
+abbrev pub by_line : Calendar → ℕ → ℕ → ℕ → ℕ → ByLine
+by_line K k a b r = record { calendar = K; from = k; a = a; b = b; r = r }
 
 -- the lines: 30, 1, 0 and 59, 2, 1 from the first position; 153, 5, 2 from March, which is position 7, 6 or 3
-abbrev pub byLines : List ByLine
-byLines =
-    byLine egyptian 0 30 1 0
-    ∷ byLine armenian 0 30 1 0
-    ∷ byLine khwarizmian 0 30 1 0
-    ∷ byLine ethiopian 0 30 1 0
-    ∷ byLine coptic 0 30 1 0
-    ∷ byLine republican 0 30 1 0
-    ∷ byLine macedonian 6 153 5 2
-    ∷ byLine syrian 5 153 5 2
-    ∷ byLine julian 2 153 5 2
-    ∷ byLine gregorian 2 153 5 2
-    ∷ byLine islamicA 0 59 2 1
-    ∷ byLine islamicB 0 59 2 1
+abbrev pub by_lines : List ByLine
+by_lines =
+    by_line egyptian 0 30 1 0
+    ∷ by_line armenian 0 30 1 0
+    ∷ by_line khwarizmian 0 30 1 0
+    ∷ by_line ethiopian 0 30 1 0
+    ∷ by_line coptic 0 30 1 0
+    ∷ by_line republican 0 30 1 0
+    ∷ by_line macedonian 6 153 5 2
+    ∷ by_line syrian 5 153 5 2
+    ∷ by_line julian 2 153 5 2
+    ∷ by_line gregorian 2 153 5 2
+    ∷ by_line islamic_a 0 59 2 1
+    ∷ by_line islamic_b 0 59 2 1
     ∷ []
 
 -- the line yields the lengths before the last, in every year
 abbrev pub Yields : ByLine → Type 0
-Yields x = (i : ℕ) → Generates (natural x.a x.b x.r) (butLast (lengths x i))
+Yields x = (i : ℕ) → Generates (natural x.a x.b x.r) (but_last (lengths x i))
 
 -- the quotient of day n of a year with so many positions, held to the last
 abbrev pub quotient : ℕ → ℕ → ℕ → ℕ → ℕ → ℕ

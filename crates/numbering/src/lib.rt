@@ -1,11 +1,13 @@
 // The day of a date as one number: the day, or a refusal's number 2^32 high. Plain numbers, since a large function with two callers is called, and would hand a
 // struct over through memory. The families of calendars are crates of their own; here each calendar is given its family and its first day, and the refusals
 // are tried in their order: 1, 2, 3, 4, 17, 5. A test in the form that a date meets comes first, so that the compiler puts what follows next to it.
+#![tactic(auto)]
+
 ghost use Rattle.std.specs.Prelude.{cond, ◌≡◌, ◌*◌, ◌^◌, ◌≤◌, eqb, negsuc};
-ghost use Rattle.counting.specs.Years.{yearAt};
-ghost use Rattle.calendar_rules.specs.Answers.{dayAnswer};
+ghost use Rattle.counting.specs.Years.{year_at};
+ghost use Rattle.calendar_rules.specs.Answers.{day_answer};
 ghost use Rattle.months.specs.Parts.{MonthOf};
-ghost use Rattle.asking.specs.Steps.{Answered, Sought, in_range, endTried, packedDay, packedNone};
+ghost use Rattle.asking.specs.Steps.{Answered, Sought, in_range, end_tried, packed_day, packed_none};
 
 use parts::Month;
 
@@ -62,7 +64,7 @@ fn later_month(c: u64, i: u16, p: u64) -> Month
 // The same of the year that is y years after -4712. (The Gregorian calendar has a function of its own too.)
 fn month_in(c: u64, y: u16, p: u64) -> Month
     requires { (c ≡ 11 → ⊥) × (c ≡ 18 → ⊥) × (y ≤ 24712) }
-    ensures { Sought c (yearAt (negsuc 4711) y) (λ K i. MonthOf K i p result.start result.days) result.days }
+    ensures { Sought c (year_at (negsuc 4711) y) (λ K i. MonthOf K i p result.start result.days) result.days }
 {
     if c != 10 {
         if y < 4713 {
@@ -77,7 +79,7 @@ fn month_in(c: u64, y: u16, p: u64) -> Month
 
 // Why a position with so many days, or none, has no day that was sought.
 fn no_day(c: u64, year: i64, days: u64) -> u64
-    ensures { result ≡ cond (eqb days 0) (packedNone c year) (4 * 2 ^ 32) }
+    ensures { result ≡ cond (eqb days 0) (packed_none c year) (4 * 2 ^ 32) }
 {
     if days == 0 {
         return listing::no_month(c, year);
@@ -97,7 +99,7 @@ fn in_time(n: u64) -> u64
 
 // A Republican day, 17 tried: a day that is out of range is after the end.
 fn before_end(n: u64) -> u64
-    ensures { result ≡ endTried 7 (in_range n) }
+    ensures { result ≡ end_tried 7 (in_range n) }
 {
     if listing::last_day(7) < n {
         return 0x11_0000_0000;
@@ -107,7 +109,7 @@ fn before_end(n: u64) -> u64
 
 // A day of any calendar, 17 and 5 tried.
 fn limited(calendar: u64, n: u64) -> u64
-    ensures { result ≡ endTried calendar (in_range n) }
+    ensures { result ≡ end_tried calendar (in_range n) }
 {
     if calendar == 7 {
         return before_end(n);
@@ -117,7 +119,7 @@ fn limited(calendar: u64, n: u64) -> u64
 
 // Calendar 11.
 fn gregorian_day(year: i64, month: u64, day: u64) -> u64
-    ensures { result ≡ packedDay (dayAnswer 11 year month day) }
+    ensures { result ≡ packed_day (day_answer 11 year month day) }
 {
     if listing::year_inside(year) {
         if (month == 0) | (12 < month) {
@@ -130,7 +132,7 @@ fn gregorian_day(year: i64, month: u64, day: u64) -> u64
 
 // Calendar 18.
 pub fn hebrew_day(year: i64, month: u64, day: u64) -> u64
-    ensures { result ≡ packedDay (dayAnswer 18 year month day) }
+    ensures { result ≡ packed_day (day_answer 18 year month day) }
 {
     if year < 1 {
         return 0x2_0000_0000;
@@ -151,7 +153,7 @@ pub fn hebrew_day(year: i64, month: u64, day: u64) -> u64
 // All others.
 fn other_day(calendar: u64, year: i64, month: u64, day: u64) -> u64
     requires { (calendar ≡ 11 → ⊥) × (calendar ≡ 18 → ⊥) }
-    ensures { result ≡ packedDay (dayAnswer calendar year month day) }
+    ensures { result ≡ packed_day (day_answer calendar year month day) }
 {
     if listing::year_inside(year) {
         if month == 0 {
@@ -168,7 +170,7 @@ fn other_day(calendar: u64, year: i64, month: u64, day: u64) -> u64
 
 // Any calendar.
 pub fn packed_day(calendar: u64, year: i64, month: u64, day: u64) -> u64
-    ensures { result ≡ packedDay (dayAnswer calendar year month day) }
+    ensures { result ≡ packed_day (day_answer calendar year month day) }
 {
     if calendar == 11 {
         return gregorian_day(year, month, day);

@@ -1,6 +1,8 @@
 // What the families of calendars find, as plain numbers: a position of a year, and the date of a day.
+#![tactic(auto)]
+
 ghost use Rattle.std.specs.Prelude.{◌≡◌, cond, ◌+◌, ◌≤◌};
-ghost use Rattle.counting.specs.Years.{yearAt};
+ghost use Rattle.counting.specs.Years.{year_at};
 
 // A position of a year: the day that it begins on, and its length; no days where the year has no such position.
 #[derive(Drop)]
@@ -40,7 +42,7 @@ pub fn pick(first: bool, a: u64, b: u64) -> u64
 
 // A date in the year that is i years after the year first.
 pub fn place_in(first: i32, i: u32, month: u64, day: u64) -> Place
-    ensures { (result.year ≡ yearAt first i) × (result.month ≡ month) × (result.day ≡ day) }
+    ensures { (result.year ≡ year_at first i) × (result.month ≡ month) × (result.day ≡ day) }
 {
     Place {
         year: (first as i64) + (i as i64),

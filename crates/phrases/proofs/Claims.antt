@@ -11,49 +11,49 @@ use Rattle.refusals.specs.declared.Refusal.TheVariants.{CodeOutOfLimits, NoLine,
 use Rattle.refusals.specs.declared.Refusal.TheVariants.{WrongWeekday, CalendarEnded}
 use Rattle.refusals.specs.Number.{number_of}
 use Rattle.decimal.specs.Decimal.{text}
-use Rattle.decimal.proofs.Claims.{text-length}
+use Rattle.decimal.proofs.Claims.{text_length}
 use Rattle.words.specs.Text.{bytes, lower, lowered, same}
-use Rattle.words.specs.Names.{numberNamed, name_of, hasName}
-use Rattle.words.proofs.Tables.{all_rows, own-number, name_back, name-length}
+use Rattle.words.specs.Names.{number_named, name_of, has_name}
+use Rattle.words.proofs.Tables.{all_rows, own_number, name_back, name_length}
 use Rattle.words.proofs.Claims.{OwnNames, LeadBack}
-use Rattle.phrases.specs.Phrases.{answerWords, refusalText}
+use Rattle.phrases.specs.Phrases.{answer_words, refusal_text}
 
 -- every refusal has its words
-pub refusal-named : (why : Refusal) → hasName answerWords (number_of why) ≡ true
-unfolding hasName answerWords
-refusal-named UnknownCalendar = refl
-refusal-named YearOutOfRange = refl
-refusal-named NoSuchMonth = refl
-refusal-named NoSuchDay = refl
-refusal-named DayOutOfRange = refl
-refusal-named CodeOutOfLimits = refl
-refusal-named NoLine = refl
-refusal-named MalformedFrame = refl
-refusal-named WrongDay = refl
-refusal-named LineOutOfLimits = refl
-refusal-named BufferTooShort = refl
-refusal-named WrongWeekday = refl
-refusal-named CalendarEnded = refl
+pub refusal_named : (why : Refusal) → has_name answer_words (number_of why) ≡ true
+unfolding has_name answer_words
+refusal_named UnknownCalendar = refl
+refusal_named YearOutOfRange = refl
+refusal_named NoSuchMonth = refl
+refusal_named NoSuchDay = refl
+refusal_named DayOutOfRange = refl
+refusal_named CodeOutOfLimits = refl
+refusal_named NoLine = refl
+refusal_named MalformedFrame = refl
+refusal_named WrongDay = refl
+refusal_named LineOutOfLimits = refl
+refusal_named BufferTooShort = refl
+refusal_named WrongWeekday = refl
+refusal_named CalendarEnded = refl
 
 -- no two numbers share their words
-pub answers-apart : OwnNames answerWords × LeadBack answerWords
-unfolding all_rows answerWords numberNamed bytes lower lowered same
-answers-apart = (own-number answerWords answerWords refl, name_back answerWords answerWords refl)
+pub answers_apart : OwnNames answer_words × LeadBack answer_words
+unfolding all_rows answer_words number_named bytes lower lowered same
+answers_apart = (own_number answer_words answer_words refl, name_back answer_words answer_words refl)
 
 -- a refusal is at most 78 bytes
-pub answer-length : (n : ℕ) → length (name_of answerWords n) ≤ 48
-unfolding all_rows answerWords bytes
-answer-length = name-length 48 answerWords refl
+pub answer_length : (n : ℕ) → length (name_of answer_words n) ≤ 48
+unfolding all_rows answer_words bytes
+answer_length = name_length 48 answer_words refl
 
-pub refusal-length : (n : ℕ) → length (refusalText n) ≤ 78
-unfolding refusalText bytes
-refusal-length n =
+pub refusal_length : (n : ℕ) → length (refusal_text n) ≤ 78
+unfolding refusal_text bytes
+refusal_length n =
     let before = bytes "refused " ++ text n in
     omega (
       arith,
-      length-append (before ++ bytes ": ") (name_of answerWords n),
+      length-append (before ++ bytes ": ") (name_of answer_words n),
       length-append before (bytes ": "),
       length-append (bytes "refused ") (text n),
-      (text-length n).1,
-      answer-length n,
+      (text_length n).1,
+      answer_length n,
     )

@@ -1,11 +1,13 @@
 // Numbers, names and refusals as parts of a line that is built in a lent buffer (crate `texts`). A refusal's words stand here alone.
 // `proofs/Claims.antt` is the page to read first.
+#![tactic(auto)]
+
 ghost use Rattle.refusals.specs.Number.{number_of};
-ghost use Rattle.decimal.specs.Decimal.{text, signedText};
-ghost use Rattle.words.specs.Names.{name_of, calendarNames, weekdayNames};
+ghost use Rattle.decimal.specs.Decimal.{text, signed_text};
+ghost use Rattle.words.specs.Names.{name_of, calendar_names, weekday_names};
 ghost use Rattle.texts.specs.Writing.{Writes};
-ghost use Rattle.texts.specs.Columns.{leftIn, rightIn};
-ghost use Rattle.phrases.specs.Phrases.{answerWords, refusalText};
+ghost use Rattle.texts.specs.Columns.{left_in, right_in};
+ghost use Rattle.phrases.specs.Phrases.{answer_words, refusal_text};
 
 use refusals::Refusal;
 use texts::{append, append_left, append_right};
@@ -22,7 +24,7 @@ pub fn append_number(at: usize, n: u64, line: &mut [u8]) -> usize
 }
 
 pub fn append_signed(at: usize, n: i64, line: &mut [u8]) -> usize
-    ensures { Writes at (signedText n) line.old line.new result }
+    ensures { Writes at (signed_text n) line.old line.new result }
 {
     let mut digits = [0u8; 20];
     let k = decimal::write_signed(n, &mut digits);
@@ -31,7 +33,7 @@ pub fn append_signed(at: usize, n: i64, line: &mut [u8]) -> usize
 
 // A number at the right of a column.
 pub fn append_number_in(at: usize, width: usize, n: u64, line: &mut [u8]) -> usize
-    ensures { Writes at (rightIn width (text n)) line.old line.new result }
+    ensures { Writes at (right_in width (text n)) line.old line.new result }
 {
     let mut digits = [0u8; 20];
     let k = decimal::write(n, &mut digits);
@@ -39,7 +41,7 @@ pub fn append_number_in(at: usize, width: usize, n: u64, line: &mut [u8]) -> usi
 }
 
 pub fn append_signed_in(at: usize, width: usize, n: i64, line: &mut [u8]) -> usize
-    ensures { Writes at (rightIn width (signedText n)) line.old line.new result }
+    ensures { Writes at (right_in width (signed_text n)) line.old line.new result }
 {
     let mut digits = [0u8; 20];
     let k = decimal::write_signed(n, &mut digits);
@@ -48,7 +50,7 @@ pub fn append_signed_in(at: usize, width: usize, n: i64, line: &mut [u8]) -> usi
 
 // A calendar's name in its column.
 pub fn append_calendar(at: usize, calendar: u64, line: &mut [u8]) -> usize
-    ensures { Writes at (leftIn 11 (name_of calendarNames calendar)) line.old line.new result }
+    ensures { Writes at (left_in 11 (name_of calendar_names calendar)) line.old line.new result }
 {
     let mut name = [0u8; 12];
     let k = words::calendar_name(calendar, &mut name);
@@ -56,7 +58,7 @@ pub fn append_calendar(at: usize, calendar: u64, line: &mut [u8]) -> usize
 }
 
 pub fn append_weekday(at: usize, weekday: u64, line: &mut [u8]) -> usize
-    ensures { Writes at (name_of weekdayNames weekday) line.old line.new result }
+    ensures { Writes at (name_of weekday_names weekday) line.old line.new result }
 {
     let mut name = [0u8; 12];
     let k = words::weekday_name(weekday, &mut name);
@@ -65,7 +67,7 @@ pub fn append_weekday(at: usize, weekday: u64, line: &mut [u8]) -> usize
 
 // The words of an answer number, and none for any other.
 pub fn append_answer(at: usize, number: u64, line: &mut [u8]) -> usize
-    ensures { Writes at (name_of answerWords number) line.old line.new result }
+    ensures { Writes at (name_of answer_words number) line.old line.new result }
 {
     match number {
         0 => append(at, b"done", line),
@@ -91,7 +93,7 @@ pub fn append_answer(at: usize, number: u64, line: &mut [u8]) -> usize
 }
 
 pub fn append_refusal(at: usize, why: Refusal, line: &mut [u8]) -> usize
-    ensures { Writes at (refusalText (number_of why)) line.old line.new result }
+    ensures { Writes at (refusal_text (number_of why)) line.old line.new result }
 {
     let number = refusals::wide_number(why);
     let a = append(at, b"refused ", line);

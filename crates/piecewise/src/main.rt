@@ -1,5 +1,7 @@
 // Runs the rules' example of a sheet through `judging` in pieces of each length, with small and large output buffers. Each run writes
 // the example's answers; an empty input writes nothing.
+#![tactic(auto)]
+
 ghost use Rattle.std.specs.Prelude.{◌≤◌};
 
 use carrying::Unfinished;

@@ -1,5 +1,7 @@
 // Bytes and numbers for standard output, gathered in a lent buffer, which is written when it is full and by `flush`.
 // What is written no contract can say, so the promises only limit the results: nothing follows a write that failed.
+#![tactic(auto)]
+
 ghost use Rattle.std.specs.Prelude.{◌≡◌, false, true};
 ghost use Rattle.printing.specs.Good.{good};
 

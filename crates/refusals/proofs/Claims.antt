@@ -55,9 +55,9 @@ pub not_done : (why : Refusal) → 1 ≤ number_of why
 not_done why = (back why).1
 
 -- so a test for 0 tells an answer from a refusal
-pub not-zero : (why : Refusal) → eqb (number_of why) 0 ≡ false
-not-zero why = ne_eqb (number_of why) 0 (λ e. omega (arith, not_done why))
+pub not_zero : (why : Refusal) → eqb (number_of why) 0 ≡ false
+not_zero why = ne_eqb (number_of why) 0 (λ e. omega (arith, not_done why))
 
 -- refusals with one number are one refusal
-pub own-number : (x y : Refusal) → number_of x ≡ number_of y → x ≡ y
-own-number x y e = sym (back x).0 ∙ ap (λ (n : ℕ). find n all) e ∙ (back y).0
+pub own_number : (x y : Refusal) → number_of x ≡ number_of y → x ≡ y
+own_number x y e = sym (back x).0 ∙ ap (λ (n : ℕ). find n all) e ∙ (back y).0

@@ -1,4 +1,6 @@
 // The reasons for which an input is refused, shared by all crates. Which inputs get which is said where they are refused.
+#![tactic(auto)]
+
 ghost use Rattle.std.specs.Prelude.{◌≡◌};
 ghost use Rattle.refusals.specs.Number.{number_of};
 

@@ -11,47 +11,47 @@ use lib.Dec.{ltb, eqb}
 use lib.ListN.{length, take, get_or, get_or-eq_default}
 use lib.Seq.{take_all, length-take-le}
 use borrow.Author.Tests.{ltb-true, ltb-false, eqb-true, eq-eqb}
-use Rattle.hex.specs.Digits.{sixteenDigits, writtenIn}
+use Rattle.hex_digits.specs.Digits.{sixteen_digits, written_in}
 use Rattle.streaming.specs.Lines.{newline}
 use Rattle.streaming.proofs.Pieces.{Reads}
-use Rattle.verdicts.specs.Verdict.{verdictOf}
+use Rattle.verdicts.specs.Verdict.{verdict_of}
 use Rattle.verdicts.proofs.Verdicts.{other_length}
 use Rattle.carrying.specs.Kept.{most}
 use Rattle.replying.specs.declared.Line.TheVariants.{Frame, Other}
-use Rattle.replying.specs.Sheet.{twoDigits, judging}
-use Rattle.replying.specs.First.{firstLine}
+use Rattle.replying.specs.Sheet.{two_digits, judging}
+use Rattle.replying.specs.First.{first_line}
 
 -- an answer has three bytes
-pub three-bytes : (n : ℕ) → length (twoDigits n) ≡ 3
-unfolding twoDigits writtenIn
-three-bytes n = refl
+pub three_bytes : (n : ℕ) → length (two_digits n) ≡ 3
+unfolding two_digits written_in
+three_bytes n = refl
 
 -- the first 17 bytes of a line fix its verdict
-pub first-bytes : (line : List ℕ) → verdictOf (take 17 line) ≡ verdictOf line
-first-bytes line = go (ltb 17 (length line)) refl
+pub first_bytes : (line : List ℕ) → verdict_of (take 17 line) ≡ verdict_of line
+first_bytes line = go (ltb 17 (length line)) refl
   where
-    go : (c : Bool) → ltb 17 (length line) ≡ c → verdictOf (take 17 line) ≡ verdictOf line
+    go : (c : Bool) → ltb 17 (length line) ≡ c → verdict_of (take 17 line) ≡ verdict_of line
     go true e =
         let h = ltb-true 17 (length line) e in
         let k : length (take 17 line) ≡ 17 = length-take-le 17 line (omega arith) in
         other_length (take 17 line) (λ x. omega arith) ∙ sym (other_length line (λ x. omega arith))
-    go false e = ap verdictOf (take_all 17 line (ltb-false 17 (length line) e))
+    go false e = ap verdict_of (take_all 17 line (ltb-false 17 (length line) e))
 
 -- so what is kept of a line is enough to answer it
 pub reads : Reads most judging
-reads = record { reply = λ s line. ap twoDigits (first-bytes line); move = λ s line. refl }
+reads = record { reply = λ s line. ap two_digits (first_bytes line); move = λ s line. refl }
 
 -- bytes that begin with a frame: exactly 16 digits and a newline; and the frame's verdict
 pub record Begins (s : List ℕ) (v : ℕ) : Type 0 where
-  pub digits : sixteenDigits (take 16 s) ≡ true
+  pub digits : sixteen_digits (take 16 s) ≡ true
   pub within : 16 < length s
   pub ends : get_or s 16 0 ≡ newline
-  pub verdict : v ≡ verdictOf (take 16 s)
+  pub verdict : v ≡ verdict_of (take 16 s)
 
-pub frame-first : (s : List ℕ) (v : ℕ) → (Frame v ≡ firstLine s) ↔ Begins s v
-unfolding firstLine
-frame-first s v = (
-  there (sixteenDigits (take 16 s)) refl (eqb (get_or s 16 0) newline) refl,
+pub frame_first : (s : List ℕ) (v : ℕ) → (Frame v ≡ first_line s) ↔ Begins s v
+unfolding first_line
+frame_first s v = (
+  there (sixteen_digits (take 16 s)) refl (eqb (get_or s 16 0) newline) refl,
   λ b. rw (b.digits, eq-eqb (get_or s 16 0) newline b.ends) (ap Frame b.verdict),
 )
   where
@@ -59,8 +59,8 @@ frame-first s v = (
     within e (yes h) = h
     within e (no h) = absurd (omega (arith, get_or-eq_default s 0 {n = 16} (omega arith)))
 
-    there : (d : Bool) → sixteenDigits (take 16 s) ≡ d → (e : Bool) → eqb (get_or s 16 0) newline ≡ e
-        → Frame v ≡ cond (d && e) (Frame (verdictOf (take 16 s))) Other → Begins s v
+    there : (d : Bool) → sixteen_digits (take 16 s) ≡ d → (e : Bool) → eqb (get_or s 16 0) newline ≡ e
+        → Frame v ≡ cond (d && e) (Frame (verdict_of (take 16 s))) Other → Begins s v
     there true h true k e =
         let l = eqb-true (get_or s 16 0) newline k in record { digits = h; within = within l (dec_lt 16 (length s)); ends = l; verdict = cc }
     there true h false k e = let z : ◌≡◌ {A = ℕ} 0 1 = cc in absurd (omega arith)

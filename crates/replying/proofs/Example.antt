@@ -2,15 +2,15 @@
 use mathlib.Core.Path.{◌≡◌, refl}
 use mathlib.Core.List.{List, [], ◌∷◌, ◌++◌}
 use Prim.Native.Nat.{ℕ}
-use Rattle.counting.specs.Calendar.{total, start, dayOf}
-use Rattle.counting.specs.Answers.{years, dayFor, weekdayTried}
+use Rattle.counting.specs.Calendar.{total, start, day_of}
+use Rattle.counting.specs.Answers.{years, day_for, weekday_tried}
 use Rattle.calendar_rules.specs.Calendars.{lookup, calendar}
-use Rattle.calendar_rules.specs.Answers.{dayAnswerWith}
-use Rattle.hex.specs.Digits.{digitOf, allDigits, sixteenDigits, numberFrom, field, writtenIn}
+use Rattle.calendar_rules.specs.Answers.{day_answer_with}
+use Rattle.hex_digits.specs.Digits.{digit_of, all_digits, sixteen_digits, number_from, field, written_in}
 use Rattle.frames.specs.Frame.{fields_of}
 use Rattle.streaming.specs.Lines.{lines_of, replies}
-use Rattle.verdicts.specs.Verdict.{against, verdictOn, verdictOf}
-use Rattle.replying.specs.Sheet.{twoDigits, sheetOf}
+use Rattle.verdicts.specs.Verdict.{against, verdict_on, verdict_of}
+use Rattle.replying.specs.Sheet.{two_digits, sheet_of}
 
 -- 0b1a380101256859, 0b1a38010125685a, xyz
 abbrev pub input : List ℕ
@@ -23,23 +23,23 @@ input =
 abbrev pub output : List ℕ
 output = 48 ∷ 48 ∷ 10 ∷ 48 ∷ 57 ∷ 10 ∷ 48 ∷ 56 ∷ 10 ∷ []
 
-pub example : sheetOf input ≡ output
-unfolding sheetOf lines_of replies twoDigits writtenIn verdictOf verdictOn fields_of against sixteenDigits allDigits digitOf numberFrom field
-    dayAnswerWith calendar lookup dayFor weekdayTried years dayOf start total
+pub example : sheet_of input ≡ output
+unfolding sheet_of lines_of replies two_digits written_in verdict_of verdict_on fields_of against sixteen_digits all_digits digit_of number_from field
+    day_answer_with calendar lookup day_for weekday_tried years day_of start total
 example = refl
 
 -- 071276040a24538f, 071276040b245390, 071276040b000000: the last Republican date, and the date after it with the day after and with another
-abbrev pub endInput : List ℕ
-endInput =
+abbrev pub end_input : List ℕ
+end_input =
     (48 ∷ 55 ∷ 49 ∷ 50 ∷ 55 ∷ 54 ∷ 48 ∷ 52 ∷ 48 ∷ 97 ∷ 50 ∷ 52 ∷ 53 ∷ 51 ∷ 56 ∷ 102 ∷ 10 ∷ [])
     ++ (48 ∷ 55 ∷ 49 ∷ 50 ∷ 55 ∷ 54 ∷ 48 ∷ 52 ∷ 48 ∷ 98 ∷ 50 ∷ 52 ∷ 53 ∷ 51 ∷ 57 ∷ 48 ∷ 10 ∷ [])
     ++ (48 ∷ 55 ∷ 49 ∷ 50 ∷ 55 ∷ 54 ∷ 48 ∷ 52 ∷ 48 ∷ 98 ∷ 48 ∷ 48 ∷ 48 ∷ 48 ∷ 48 ∷ 48 ∷ 10 ∷ [])
 
 -- 00, 11, 11
-abbrev pub endOutput : List ℕ
-endOutput = 48 ∷ 48 ∷ 10 ∷ 49 ∷ 49 ∷ 10 ∷ 49 ∷ 49 ∷ 10 ∷ []
+abbrev pub end_output : List ℕ
+end_output = 48 ∷ 48 ∷ 10 ∷ 49 ∷ 49 ∷ 10 ∷ 49 ∷ 49 ∷ 10 ∷ []
 
-pub end-example : sheetOf endInput ≡ endOutput
-unfolding sheetOf lines_of replies twoDigits writtenIn verdictOf verdictOn fields_of against sixteenDigits allDigits digitOf numberFrom field
-    dayAnswerWith calendar lookup dayFor weekdayTried years dayOf start total
-end-example = refl
+pub end_example : sheet_of end_input ≡ end_output
+unfolding sheet_of lines_of replies two_digits written_in verdict_of verdict_on fields_of against sixteen_digits all_digits digit_of number_from field
+    day_answer_with calendar lookup day_for weekday_tried years day_of start total
+end_example = refl

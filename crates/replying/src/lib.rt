@@ -1,9 +1,11 @@
 // The answer number of one line of a sheet: of a frame where it stands, and of a line that was kept from pieces.
 // `proofs/Claims.antt` is the page to read first.
+#![tactic(auto)]
+
 ghost use Rattle.std.specs.Prelude.{◌≡◌};
-ghost use Rattle.verdicts.specs.Verdict.{verdictOf};
-ghost use Rattle.carrying.specs.Kept.{keptOf};
-ghost use Rattle.replying.specs.First.{firstLine};
+ghost use Rattle.verdicts.specs.Verdict.{verdict_of};
+ghost use Rattle.carrying.specs.Kept.{kept_of};
+ghost use Rattle.replying.specs.First.{first_line};
 
 use carrying::Unfinished;
 use frames::Reading;
@@ -19,7 +21,7 @@ pub enum Line {
 const FRAME: usize = 16;
 
 pub fn first_line(bytes: &[u8]) -> Line
-    ensures { result ≡ firstLine bytes.now }
+    ensures { result ≡ first_line bytes.now }
 {
     if bytes.len() > FRAME {
         if bytes[FRAME] == b'\n' {
@@ -33,7 +35,7 @@ pub fn first_line(bytes: &[u8]) -> Line
 
 // The number of the verdict on a line that is kept. A state may count more bytes than it has: its fields are public.
 pub fn kept_number(line: Unfinished) -> u8
-    ensures { result ≡ verdictOf (keptOf line) }
+    ensures { result ≡ verdict_of (kept_of line) }
 {
     let bytes = line.bytes;
     let mut n = line.count;

@@ -1,11 +1,13 @@
 // The Saka calendar, 15: a position of 30 or 31 days, five of 31 and six of 30. Counted from the second, where the extra day comes at the end, its years are of
 // the Gregorian kind: the extra day of year Y falls in the Gregorian year Y + 78, and the first year, which is year 1, begins in the year 4878 from -4800.
 // Positions are counted from 0.
+#![tactic(auto)]
+
 ghost use Rattle.std.specs.Prelude.{cond, ◌≡◌, ◌+◌, ◌<◌, ltb};
 ghost use Rattle.calendar_rules.specs.Calendars.{saka};
-ghost use Rattle.months.specs.BahaiSaka.{sakaLength};
-ghost use Rattle.months.specs.Leap.{gregorianLong};
-ghost use Rattle.months.specs.Parts.{lengthAt, MonthOf, PlaceOf};
+ghost use Rattle.months.specs.BahaiSaka.{saka_length};
+ghost use Rattle.months.specs.Leap.{gregorian_long};
+ghost use Rattle.months.specs.Parts.{length_at, MonthOf, PlaceOf};
 
 use parts::{Month, Place};
 
@@ -21,7 +23,7 @@ fn counted_year(i: u16, p: u64) -> u32
 // The length of position p, in year z so counted.
 fn counted_length(z: u32, p: u64) -> u64
     requires { p < 12 }
-    ensures { result ≡ sakaLength (gregorianLong z) p }
+    ensures { result ≡ saka_length (gregorian_long z) p }
 {
     let first = 30 + gregorian_years::extra_days(z);
     let usual = parts::pick(p < 6, 31, 30);
@@ -29,7 +31,7 @@ fn counted_length(z: u32, p: u64) -> u64
 }
 
 pub fn length_at(i: u16, p: u64) -> u64
-    ensures { result ≡ lengthAt saka i p }
+    ensures { result ≡ length_at saka i p }
 {
     if 11 < p {
         return 0;

@@ -1,5 +1,7 @@
 // The sheet program: frames from standard input, one a line, and their answer numbers to standard output. All that matters is in
 // `judging`; here is only reading and writing.
+#![tactic(auto)]
+
 ghost use Rattle.std.specs.Prelude.{◌*◌, ◌≤◌, length};
 ghost use Rattle.judging.specs.Piece.{Judged};
 

@@ -1,5 +1,7 @@
 // Standard input and output of the programs. A program has no exit status: a read or a write that fails is said in one line on standard
 // error. What is read and what is written no contract can say, so the promises only limit the results.
+#![tactic(auto)]
+
 ghost use Rattle.std.specs.Prelude.{◌≡◌, false, true, length, nat_abs};
 ghost use Rattle.io.specs.Counts.{IsPrefixLen};
 

@@ -13,22 +13,22 @@ after line (b ∷ t) = after (grown line b) t
 
 module _ {S : Type 0} (m : Machine S) where
   -- the state after one byte more: the line that it ends moves it
-  unfoldable pub movedBy : S → List ℕ → ℕ → S
-  movedBy s line b = cond (eqb b newline) (m.move s line) s
+  unfoldable pub moved_by : S → List ℕ → ℕ → S
+  moved_by s line b = cond (eqb b newline) (m.move s line) s
 
   -- what one byte more has written: the reply to the line that it ends
   unfoldable pub answered : S → List ℕ → ℕ → List ℕ
   answered s line b = cond (eqb b newline) (m.reply s line) []
 
   -- the state after some bytes more
-  unfoldable pub stateAfter : S → List ℕ → List ℕ → S
-  stateAfter s line [] = s
-  stateAfter s line (b ∷ t) = stateAfter (movedBy s line b) (grown line b) t
+  unfoldable pub state_after : S → List ℕ → List ℕ → S
+  state_after s line [] = s
+  state_after s line (b ∷ t) = state_after (moved_by s line b) (grown line b) t
 
   -- what some bytes more have written
   unfoldable pub answers : S → List ℕ → List ℕ → List ℕ
   answers s line [] = []
-  answers s line (b ∷ t) = answered s line b ++ answers (movedBy s line b) (grown line b) t
+  answers s line (b ∷ t) = answered s line b ++ answers (moved_by s line b) (grown line b) t
 
   -- what the end of the input has written: the reply to the unfinished line, if it has bytes
   unfoldable pub ending : S → List ℕ → List ℕ
@@ -36,19 +36,19 @@ module _ {S : Type 0} (m : Machine S) where
   ending s (b ∷ line) = m.reply s (b ∷ line)
 
   -- the state at the end of the input
-  unfoldable pub endState : S → List ℕ → S
-  endState s [] = s
-  endState s (b ∷ line) = m.move s (b ∷ line)
+  unfoldable pub end_state : S → List ℕ → S
+  end_state s [] = s
+  end_state s (b ∷ line) = m.move s (b ∷ line)
 
   -- What a program writes that takes the pieces one after the other and keeps the first n bytes of the unfinished line, and the state, from each to the next.
   unfoldable pub in_pieces : ℕ → S → List ℕ → List (List ℕ) → List ℕ
   in_pieces n s kept [] = ending s kept
-  in_pieces n s kept (piece ∷ rest) = answers s kept piece ++ in_pieces n (stateAfter s kept piece) (take n (after kept piece)) rest
+  in_pieces n s kept (piece ∷ rest) = answers s kept piece ++ in_pieces n (state_after s kept piece) (take n (after kept piece)) rest
 
   -- the state that it ends in
-  unfoldable pub lastState : ℕ → S → List ℕ → List (List ℕ) → S
-  lastState n s kept [] = endState s kept
-  lastState n s kept (piece ∷ rest) = lastState n (stateAfter s kept piece) (take n (after kept piece)) rest
+  unfoldable pub last_state : ℕ → S → List ℕ → List (List ℕ) → S
+  last_state n s kept [] = end_state s kept
+  last_state n s kept (piece ∷ rest) = last_state n (state_after s kept piece) (take n (after kept piece)) rest
 
 -- the pieces put together
 unfoldable pub joined : List (List ℕ) → List ℕ

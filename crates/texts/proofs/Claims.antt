@@ -8,14 +8,14 @@ use Rattle.texts.proofs.Writing as W
 
 -- Where there is room, all of the text is written behind the bytes before it.
 pub whole : (at : ℕ) (text line : List ℕ) → at ≤ length line → at + length text ≤ length line → kept at text line ≡ take at line ++ text
-whole = W.whole-text
+whole = W.whole_text
 
 -- The buffer keeps its length, and the text ends within it.
 pub same_length : (at : ℕ) (text line : List ℕ) → length (written at text line) ≡ length line
 same_length = W.same_length
 
 pub within : (at : ℕ) (text line : List ℕ) → length (kept at text line) ≤ length line
-within = W.kept-short
+within = W.kept_short
 
 -- Before its end stands what is kept: the bytes before it, and the text.
 pub front : (at : ℕ) (text line : List ℕ) → take (length (kept at text line)) (written at text line) ≡ kept at text line

@@ -9,10 +9,10 @@ use lib.Seq.{length-take-le, take_all, take-append_seam, take-suc, drop-append-a
 use Rattle.texts.specs.Writing.{kept, written, Writes}
 
 -- what is cut off anyway may be cut off early
-take-early : (n : ℕ) (xs ys : List ℕ) → take n (take n xs ++ ys) ≡ take n (xs ++ ys)
-take-early zero xs ys = refl
-take-early (suc n) [] ys = refl
-take-early (suc n) (x ∷ xs) ys = ap {B = List ℕ} (λ r. x ∷ r) (take-early n xs ys)
+take_early : (n : ℕ) (xs ys : List ℕ) → take n (take n xs ++ ys) ≡ take n (xs ++ ys)
+take_early zero xs ys = refl
+take_early (suc n) [] ys = refl
+take_early (suc n) (x ∷ xs) ys = ap {B = List ℕ} (λ r. x ∷ r) (take_early n xs ys)
 
 drop_past : (k r : ℕ) (front line : List ℕ) → length front ≡ r → r ≤ k → drop k (front ++ drop r line) ≡ drop k line
 drop_past k r front line e h =
@@ -22,16 +22,16 @@ drop_past k r front line e h =
 
 module _ (at : ℕ) (text line : List ℕ) where
   -- the text ends within the buffer
-  pub kept-short : length (kept at text line) ≤ length line
+  pub kept_short : length (kept at text line) ≤ length line
   unfolding kept
-  kept-short = omega (arith, length-take (length line) (take at line ++ text))
+  kept_short = omega (arith, length-take (length line) (take at line ++ text))
 
   pub same_length : length (written at text line) ≡ length line
   unfolding written
   same_length =
       omega (
         arith,
-        kept-short,
+        kept_short,
         length-append (kept at text line) (drop (length (kept at text line)) line),
         length-drop (length (kept at text line)) line,
       )
@@ -41,9 +41,9 @@ module _ (at : ℕ) (text line : List ℕ) where
   unfolding written
   front = take-append_seam (kept at text line) (drop (length (kept at text line)) line)
 
-  pub whole-text : at ≤ length line → at + length text ≤ length line → kept at text line ≡ take at line ++ text
+  pub whole_text : at ≤ length line → at + length text ≤ length line → kept at text line ≡ take at line ++ text
   unfolding kept
-  whole-text h k = take_all (length line) (take at line ++ text) (omega (arith, k, length-append (take at line) text, length-take-le at line h))
+  whole_text h k = take_all (length line) (take at line ++ text) (omega (arith, k, length-append (take at line) text, length-take-le at line h))
 
   kept_more : (more : List ℕ) → kept (length (kept at text line)) more (written at text line) ≡ kept at (text ++ more) line
   unfolding kept
@@ -52,7 +52,7 @@ module _ (at : ℕ) (text line : List ℕ) where
       let all = take at line ++ text in
       ap (λ (k : ℕ). take k (take (length (take n all)) (written at text line) ++ more)) same_length
       ∙ ap (λ (x : List ℕ). take n (x ++ more)) front
-      ∙ take-early n all more
+      ∙ take_early n all more
       ∙ ap (take n) (append_assoc (take at line) text more)
 
   longer : (more : List ℕ) → length (kept at text line) ≤ length (kept at (text ++ more) line)
@@ -67,9 +67,9 @@ module _ (at : ℕ) (text line : List ℕ) where
         length-append text more,
       )
 
-  written-more : (more : List ℕ) → written (length (kept at text line)) more (written at text line) ≡ written at (text ++ more) line
+  written_more : (more : List ℕ) → written (length (kept at text line)) more (written at text line) ≡ written at (text ++ more) line
   unfolding written
-  written-more more =
+  written_more more =
       let all = kept at (text ++ more) line in
       let k = length (kept at text line) in
       ap (λ (x : List ℕ). x ++ drop (length x) (written at text line)) (kept_more more)
@@ -123,7 +123,7 @@ pub then : {at : ℕ} {text : List ℕ} {before between : List ℕ} {end : ℕ} 
     → {more : List ℕ} {after : List ℕ} {last : ℕ} → Writes end more between after last
     → Writes at (text ++ more) before after last
 then {at} {text} {before} w {more} v = record {
-  whole = rw (w.whole, w.end_of) at v.whole ∙ written-more at text before more;
+  whole = rw (w.whole, w.end_of) at v.whole ∙ written_more at text before more;
   end_of = rw (w.whole, w.end_of) at v.end_of ∙ ap length (kept_more at text before more);
 }
 
@@ -135,14 +135,14 @@ pub so_far : {at : ℕ} {text before between : List ℕ} {end : ℕ} → Writes 
 so_far {at} {text} {before} w more all e {after} {last} v = subst (λ (x : List ℕ). Writes at x before after last) (sym e) (then w v)
 
 -- the next byte of a text that is written byte by byte
-pub next-byte : (text : List ℕ) (k : ℕ) → k < length text → take (k + 1) text ≡ take k text ++ get_or text k 0 ∷ []
-next-byte text k h = ap (λ (i : ℕ). take i text) (add-one k) ∙ take-suc text k 0 h
+pub next_byte : (text : List ℕ) (k : ℕ) → k < length text → take (k + 1) text ≡ take k text ++ get_or text k 0 ∷ []
+next_byte text k h = ap (λ (i : ℕ). take i text) (add-one k) ∙ take-suc text k 0 h
 
-pub keeps-length : {at : ℕ} {text before after : List ℕ} {end : ℕ} → Writes at text before after end → length after ≡ length before
-keeps-length {at} {text} {before} w = ap length w.whole ∙ same_length at text before
+pub keeps_length : {at : ℕ} {text before after : List ℕ} {end : ℕ} → Writes at text before after end → length after ≡ length before
+keeps_length {at} {text} {before} w = ap length w.whole ∙ same_length at text before
 
 -- the end lies within the buffer: what a proof of `&line[..end]` looks for
 pub counts : {at : ℕ} {text before after : List ℕ} {end : ℕ} → Writes at text before after end → (end ≤ length after) × (end ≡ length (take end after))
 counts {at} {text} {before} {after} {end} w =
-    let h : end ≤ length after = omega (arith, w.end_of, keeps-length w, kept-short at text before) in
+    let h : end ≤ length after = omega (arith, w.end_of, keeps_length w, kept_short at text before) in
     (h, sym (length-take-le end after h))

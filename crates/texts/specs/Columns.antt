@@ -6,9 +6,9 @@ blanks zero = []
 blanks (suc n) = blanks n ++ 32 ∷ []
 
 -- blanks in front
-unfoldable pub rightIn : ℕ → List ℕ → List ℕ
-rightIn width text = blanks (width - length text) ++ text
+unfoldable pub right_in : ℕ → List ℕ → List ℕ
+right_in width text = blanks (width - length text) ++ text
 
 -- blanks behind
-unfoldable pub leftIn : ℕ → List ℕ → List ℕ
-leftIn width text = text ++ blanks (width - length text)
+unfoldable pub left_in : ℕ → List ℕ → List ℕ
+left_in width text = text ++ blanks (width - length text)

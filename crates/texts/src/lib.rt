@@ -1,9 +1,11 @@
 // Lines of text, built part by part in a lent buffer. A function is told where the text so far ends, and answers where it ends with the part that it adds;
 // a part that has no room is cut.
 // `proofs/Claims.antt` is the page to read first.
+#![tactic(auto)]
+
 ghost use Rattle.std.specs.Prelude.{◌-◌, min, ◌≡◌, [], ◌∷◌};
 ghost use Rattle.texts.specs.Writing.{Writes};
-ghost use Rattle.texts.specs.Columns.{blanks, rightIn, leftIn};
+ghost use Rattle.texts.specs.Columns.{blanks, right_in, left_in};
 
 pub fn append_byte(at: usize, byte: u8, line: &mut [u8]) -> usize
     ensures { Writes at (byte ∷ []) line.old line.new result }
@@ -54,7 +56,7 @@ fn left(width: usize, used: usize) -> usize
 
 // The text in a column, at its right.
 pub fn append_right(at: usize, width: usize, text: &[u8], line: &mut [u8]) -> usize
-    ensures { Writes at (rightIn width text.now) line.old line.new result }
+    ensures { Writes at (right_in width text.now) line.old line.new result }
 {
     let begin = append_blanks(at, left(width, text.len()), line);
     append(begin, text, line)
@@ -62,7 +64,7 @@ pub fn append_right(at: usize, width: usize, text: &[u8], line: &mut [u8]) -> us
 
 // The text in a column, at its left.
 pub fn append_left(at: usize, width: usize, text: &[u8], line: &mut [u8]) -> usize
-    ensures { Writes at (leftIn width text.now) line.old line.new result }
+    ensures { Writes at (left_in width text.now) line.old line.new result }
 {
     let end = append(at, text, line);
     append_blanks(end, left(width, text.len()), line)

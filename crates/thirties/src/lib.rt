@@ -1,15 +1,17 @@
 // Calendars of twelve positions of 30 days and a shorter one: 1 to 3, where it is the last; 4, where it is the ninth; 5 to 7, where it is the last and
 // longer in a leap year. A position of the year that is i years after the first, and the date of a day: the day of the year is the remainder of the
 // division that gives the year, and its position lies on the line 30, 1, 0. Positions are counted from 0.
+#![tactic(auto)]
+
 ghost use Rattle.calendar_rules.specs.Calendars.{persian};
-ghost use Rattle.months.specs.Parts.{LengthEver, LengthYearly, LengthIn, MonthOf, PlaceOf, plainFrom, copticFrom};
+ghost use Rattle.months.specs.Parts.{LengthEver, LengthYearly, LengthIn, MonthOf, PlaceOf, plain_from, coptic_from};
 
 use parts::{Month, Place};
 
 // ---- 1 to 3
 
 pub fn plain_length(p: u64) -> u64
-    ensures { LengthEver plainFrom p result }
+    ensures { LengthEver plain_from p result }
 {
     if 12 < p {
         return 0;
@@ -18,7 +20,7 @@ pub fn plain_length(p: u64) -> u64
 }
 
 pub fn plain_month(first: u32, i: u16, p: u64) -> Month
-    ensures { MonthOf (plainFrom first) i p result.start result.days }
+    ensures { MonthOf (plain_from first) i p result.start result.days }
 {
     if 12 < p {
         return Month { start: 0, days: 0 };
@@ -30,7 +32,7 @@ pub fn plain_month(first: u32, i: u16, p: u64) -> Month
 }
 
 pub fn plain_date(first: u32, day: u32) -> Place
-    ensures { PlaceOf (plainFrom first) day result.year result.month result.day }
+    ensures { PlaceOf (plain_from first) day result.year result.month result.day }
 {
     if day < first {
         return parts::nowhere();
@@ -79,7 +81,7 @@ pub fn persian_date(day: u32) -> Place
 // ---- 5 to 7: one leap year in four
 
 pub fn coptic_length(i: u16, p: u64) -> u64
-    ensures { LengthIn copticFrom i p result }
+    ensures { LengthIn coptic_from i p result }
 {
     if 12 < p {
         return 0;
@@ -89,7 +91,7 @@ pub fn coptic_length(i: u16, p: u64) -> u64
 }
 
 pub fn coptic_month(first: u32, i: u16, p: u64) -> Month
-    ensures { MonthOf (copticFrom first) i p result.start result.days }
+    ensures { MonthOf (coptic_from first) i p result.start result.days }
 {
     if 12 < p {
         return Month { start: 0, days: 0 };
@@ -102,7 +104,7 @@ pub fn coptic_month(first: u32, i: u16, p: u64) -> Month
 }
 
 pub fn coptic_date(first: u32, day: u32) -> Place
-    ensures { PlaceOf (copticFrom first) day result.year result.month result.day }
+    ensures { PlaceOf (coptic_from first) day result.year result.month result.day }
 {
     if day < first {
         return parts::nowhere();

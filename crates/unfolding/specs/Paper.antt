@@ -4,6 +4,6 @@ use Rattle.refusals.specs.Number.{number_of}
 use Rattle.unfolding.specs.declared.Unfolded.{Unfolded}
 use Rattle.unfolding.specs.declared.Unfolded.TheVariants.{Done, Refused}
 
-abbrev pub unfoldPaper : Unfolded → ℕ
-unfoldPaper Done = 0
-unfoldPaper (Refused why) = number_of why
+abbrev pub unfold_paper : Unfolded → ℕ
+unfold_paper Done = 0
+unfold_paper (Refused why) = number_of why

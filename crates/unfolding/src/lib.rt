@@ -1,7 +1,9 @@
 // Unfolding: the lengths that a line yields.
+#![tactic(auto)]
+
 ghost use Rattle.std.specs.Prelude.{◌≡◌, true, ◌++◌, ◌≤◌, length, drop};
-ghost use Rattle.lines.specs.Unfold.{lineWithin, unfolded, unfoldNumber, unfoldBuffer};
-ghost use Rattle.unfolding.specs.Paper.{unfoldPaper};
+ghost use Rattle.lines.specs.Unfold.{line_within, unfolded, unfold_number, unfold_buffer};
+ghost use Rattle.unfolding.specs.Paper.{unfold_paper};
 
 use codes::{LONGEST, Line, MOST_LENGTHS};
 use refusals::Refusal;
@@ -17,7 +19,7 @@ pub enum Unfolded {
 
 // Whether a line is one to unfold: b from 1 to 512, r from 0 to b - 1, a from 0 to 400 b.
 fn line_within(l: Line) -> bool
-    ensures { result ≡ lineWithin l.a l.b l.r }
+    ensures { result ≡ line_within l.a l.b l.r }
 {
     if l.b == 0 {
         return false;
@@ -33,7 +35,7 @@ fn line_within(l: Line) -> bool
 
 // Writes the first `count` lengths of the line a, b, r. The remainder of a k + r by b is carried from place to place, so that the loop divides nothing.
 fn write_lengths(a: u64, b: u64, r: u64, count: usize, buffer: &mut [u64])
-    requires { (lineWithin a b r ≡ true) × (count ≤ length buffer.old) }
+    requires { (line_within a b r ≡ true) × (count ≤ length buffer.old) }
     ensures { buffer.new ≡ unfolded a b r count ++ drop count buffer.old }
 {
     let whole = a / b;
@@ -55,8 +57,8 @@ fn write_lengths(a: u64, b: u64, r: u64, count: usize, buffer: &mut [u64])
 
 // Writes the first `count` lengths that a line yields to the front of the buffer, and leaves the rest of it.
 pub fn unfold(l: Line, count: usize, buffer: &mut [u64]) -> Unfolded
-    ensures answer { unfoldPaper result ≡ unfoldNumber l.a l.b l.r count buffer.old }
-    ensures whole { buffer.new ≡ unfoldBuffer l.a l.b l.r count buffer.old }
+    ensures answer { unfold_paper result ≡ unfold_number l.a l.b l.r count buffer.old }
+    ensures whole { buffer.new ≡ unfold_buffer l.a l.b l.r count buffer.old }
 {
     if !line_within(l) {
         return Unfolded::Refused(Refusal::LineOutOfLimits);

@@ -1,4 +1,6 @@
 // Runs the proved functions on the tables of data/, which other programs computed, and compares every row.
+#![tactic(auto)]
+
 mod dates;
 mod easters;
 mod files;

@@ -2,30 +2,30 @@
 use Rattle.std.specs.Prelude.{List, cond, ℕ, eqb}
 use Rattle.refusals.specs.Number.{number_of}
 use Rattle.counting.specs.Answers.{DayAnswer}
-use Rattle.calendar_rules.specs.Answers.{dayAnswerWith}
-use Rattle.hex.specs.Digits.{sixteenDigits}
+use Rattle.calendar_rules.specs.Answers.{day_answer_with}
+use Rattle.hex_digits.specs.Digits.{sixteen_digits}
 use Rattle.frames.specs.declared.Frame.{Frame}
-use Rattle.frames.specs.Frame.{fields_of, yearOf}
+use Rattle.frames.specs.Frame.{fields_of, year_of}
 use Rattle.verdicts.specs.declared.Verdict.{Verdict}
 use Rattle.verdicts.specs.declared.Verdict.TheVariants.{Right, Refused}
 
 -- the answer number of each verdict of the code
-abbrev pub verdictNumber : Verdict → ℕ
-verdictNumber Right = 0
-verdictNumber (Refused why) = number_of why
+abbrev pub verdict_number : Verdict → ℕ
+verdict_number Right = 0
+verdict_number (Refused why) = number_of why
 
 -- what date to day answers for the date of a frame, which has no weekday
-abbrev pub answerFor : Frame → DayAnswer
-answerFor f = dayAnswerWith f.calendar (yearOf f) f.month f.day 0
+abbrev pub answer_for : Frame → DayAnswer
+answer_for f = day_answer_with f.calendar (year_of f) f.month f.day 0
 
 -- that answer against the frame's day: the first number that applies, 9 where the date is good and the day differs
 unfoldable pub against : DayAnswer → ℕ → ℕ
 against answer day = cond (eqb answer.number 0) (cond (eqb answer.day day) 0 9) answer.number
 
 -- the verdict on a frame with these fields
-unfoldable pub verdictOn : Frame → ℕ
-verdictOn f = against (answerFor f) f.number
+unfoldable pub verdict_on : Frame → ℕ
+verdict_on f = against (answer_for f) f.number
 
 -- the verdict on a line of any bytes: 8 unless it is exactly 16 lowercase hexadecimal digits
-unfoldable pub verdictOf : List ℕ → ℕ
-verdictOf line = cond (sixteenDigits line) (verdictOn (fields_of line)) 8
+unfoldable pub verdict_of : List ℕ → ℕ
+verdict_of line = cond (sixteen_digits line) (verdict_on (fields_of line)) 8

@@ -1,7 +1,9 @@
 // One line of a sheet: its frame, and the verdict on it.
 // `proofs/Claims.antt` is the page to read first.
+#![tactic(auto)]
+
 ghost use Rattle.std.specs.Prelude.{◌≡◌, min, pos, ◌-ℤ◌};
-ghost use Rattle.verdicts.specs.Verdict.{verdictNumber, verdictOn, verdictOf};
+ghost use Rattle.verdicts.specs.Verdict.{verdict_number, verdict_on, verdict_of};
 
 use calendars::{Date, Day};
 use frames::{Frame, Reading};
@@ -16,7 +18,7 @@ pub enum Verdict {
 
 // The verdict's answer number.
 pub fn number(v: Verdict) -> u8
-    ensures { result ≡ verdictNumber v }
+    ensures { result ≡ verdict_number v }
 {
     match v {
         Verdict::Right => 0,
@@ -36,7 +38,7 @@ fn year_of(field: u64) -> i64
 
 // The verdict on a frame with these fields.
 pub fn judge_frame(f: Frame) -> Verdict
-    ensures { verdictNumber result ≡ verdictOn f }
+    ensures { verdict_number result ≡ verdict_on f }
 {
     let date = Date {
         year: year_of(f.year),
@@ -58,7 +60,7 @@ pub fn judge_frame(f: Frame) -> Verdict
 
 // The verdict on a line of any bytes, without its newline.
 pub fn judge_line(line: &[u8]) -> Verdict
-    ensures { verdictNumber result ≡ verdictOf line.now }
+    ensures { verdict_number result ≡ verdict_of line.now }
 {
     match frames::read(line) {
         Reading::Fields(f) => judge_frame(f),

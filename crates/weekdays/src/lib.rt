@@ -1,12 +1,14 @@
 // Weekdays, 1 Monday to 7 Sunday: that of a day, and one that is handed in with a date.
+#![tactic(auto)]
+
 ghost use Rattle.std.specs.Prelude.{◌≡◌};
-ghost use Rattle.counting.specs.Answers.{weekdayOf};
-ghost use Rattle.calendar_rules.specs.Answers.{dayAnswerWith};
-ghost use Rattle.asking.specs.Steps.{packedDay, packedTried};
+ghost use Rattle.counting.specs.Answers.{weekday_of};
+ghost use Rattle.calendar_rules.specs.Answers.{day_answer_with};
+ghost use Rattle.asking.specs.Steps.{packed_day, packed_tried};
 
 // The weekday of a day. Where the product is right, as for every day that has a date, the remainder comes from the fraction of day / 7.
 pub fn weekday_of(day: u64) -> u64
-    ensures { result ≡ weekdayOf day }
+    ensures { result ≡ weekday_of day }
 {
     if day < 0x4000_0000 {
         let fraction = day * 613566757 % 0x1_0000_0000;
@@ -17,7 +19,7 @@ pub fn weekday_of(day: u64) -> u64
 
 // The day of a date as a plain number, or why there is none, with a weekday tried on it last: 13 where it is neither 0 nor the day's.
 fn tried(r: u64, weekday: u64) -> u64
-    ensures { result ≡ packedTried weekday r }
+    ensures { result ≡ packed_tried weekday r }
 {
     if weekday == 0 {
         return r;
@@ -32,7 +34,7 @@ fn tried(r: u64, weekday: u64) -> u64
 
 // The day of a date with a weekday.
 pub fn packed_day(calendar: u64, year: i64, month: u64, day: u64, weekday: u64) -> u64
-    ensures { result ≡ packedDay (dayAnswerWith calendar year month day weekday) }
+    ensures { result ≡ packed_day (day_answer_with calendar year month day weekday) }
 {
     tried(numbering::packed_day(calendar, year, month, day), weekday)
 }

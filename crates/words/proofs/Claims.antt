@@ -10,70 +10,70 @@ use lib.ListN.{length}
 use Rattle.basics.specs.Every.{All}
 use Rattle.words.specs.declared.Word.TheVariants.{Letters}
 use Rattle.words.specs.Text.{bytes, lower, lowered, same}
-use Rattle.words.specs.Names.{calendarNames, weekdayNames, requestNames, numberNamed, name_of, hasName}
-use Rattle.words.specs.Words.{smallLetter, allLetters, packedFrom, word_of}
-use Rattle.words.specs.Packed.{pushed, spells, numberPacked}
+use Rattle.words.specs.Names.{calendar_names, weekday_names, request_names, number_named, name_of, has_name}
+use Rattle.words.specs.Words.{small_letter, all_letters, packed_from, word_of}
+use Rattle.words.specs.Packed.{pushed, spells, number_packed}
 use Rattle.words.proofs.Packing as packing
-use Rattle.words.proofs.Tables.{all_rows, spelled, named, own-number, name_back, name-length}
+use Rattle.words.proofs.Tables.{all_rows, spelled, named, own_number, name_back, name_length}
 
 -- ---- reading
 
 -- a text is read byte by byte
-pub read-start : word_of [] ≡ Letters 0
-unfolding word_of packedFrom allLetters
-read-start = refl
+pub read_start : word_of [] ≡ Letters 0
+unfolding word_of packed_from all_letters
+read_start = refl
 
-pub read-on : (s : List ℕ) (b : ℕ) → word_of (s ++ b ∷ []) ≡ pushed (word_of s) b
-read-on = packing.read-on
+pub read_on : (s : List ℕ) (b : ℕ) → word_of (s ++ b ∷ []) ≡ pushed (word_of s) b
+read_on = packing.read_on
 
 -- what a word names is what its bytes name: packing loses nothing
-pub calendar-named : (s : List ℕ) → numberPacked calendarNames (word_of s) ≡ numberNamed calendarNames s
-unfolding all_rows calendarNames bytes lower lowered same smallLetter allLetters
-calendar-named = named calendarNames refl
+pub calendar_named : (s : List ℕ) → number_packed calendar_names (word_of s) ≡ number_named calendar_names s
+unfolding all_rows calendar_names bytes lower lowered same small_letter all_letters
+calendar_named = named calendar_names refl
 
-pub weekday-named : (s : List ℕ) → numberPacked weekdayNames (word_of s) ≡ numberNamed weekdayNames s
-unfolding all_rows weekdayNames bytes lower lowered same smallLetter allLetters
-weekday-named = named weekdayNames refl
+pub weekday_named : (s : List ℕ) → number_packed weekday_names (word_of s) ≡ number_named weekday_names s
+unfolding all_rows weekday_names bytes lower lowered same small_letter all_letters
+weekday_named = named weekday_names refl
 
-pub request-named : (s : List ℕ) → numberPacked requestNames (word_of s) ≡ numberNamed requestNames s
-unfolding all_rows requestNames bytes lower lowered same smallLetter allLetters
-request-named = named requestNames refl
+pub request_named : (s : List ℕ) → number_packed request_names (word_of s) ≡ number_named request_names s
+unfolding all_rows request_names bytes lower lowered same small_letter all_letters
+request_named = named request_names refl
 
 -- a word is `all` where its bytes are, their capitals made small
-pub all-spelled : (s : List ℕ) → spells (word_of s) "all" ≡ same (bytes "all") (lowered s)
-unfolding bytes lower lowered same smallLetter allLetters
-all-spelled s = spelled s "all" refl
+pub all_spelled : (s : List ℕ) → spells (word_of s) "all" ≡ same (bytes "all") (lowered s)
+unfolding bytes lower lowered same small_letter all_letters
+all_spelled s = spelled s "all" refl
 
 -- ---- names
 
 -- every name of a table belongs to one number
 abbrev pub OwnNames : List (ℕ × String) → Type 0
-OwnNames table = All (λ (row : ℕ × String). numberNamed table (bytes row.1) ≡ row.0) table
+OwnNames table = All (λ (row : ℕ × String). number_named table (bytes row.1) ≡ row.0) table
 
 -- and the name of a number that has one leads back to it, so that no two numbers share a name
 abbrev pub LeadBack : List (ℕ × String) → Type 0
-LeadBack table = (n : ℕ) → hasName table n ≡ true → numberNamed table (name_of table n) ≡ n
+LeadBack table = (n : ℕ) → has_name table n ≡ true → number_named table (name_of table n) ≡ n
 
-pub no-two : (table : List (ℕ × String)) → LeadBack table → (m n : ℕ) → hasName table m ≡ true → hasName table n ≡ true → name_of table m ≡ name_of table n → m ≡ n
-no-two table back m n h k e = sym (back m h) ∙ ap (numberNamed table) e ∙ back n k
+pub no_two : (table : List (ℕ × String)) → LeadBack table → (m n : ℕ) → has_name table m ≡ true → has_name table n ≡ true → name_of table m ≡ name_of table n → m ≡ n
+no_two table back m n h k e = sym (back m h) ∙ ap (number_named table) e ∙ back n k
 
-pub calendars-apart : OwnNames calendarNames × LeadBack calendarNames
-unfolding all_rows calendarNames numberNamed bytes lower lowered same
-calendars-apart = (own-number calendarNames calendarNames refl, name_back calendarNames calendarNames refl)
+pub calendars_apart : OwnNames calendar_names × LeadBack calendar_names
+unfolding all_rows calendar_names number_named bytes lower lowered same
+calendars_apart = (own_number calendar_names calendar_names refl, name_back calendar_names calendar_names refl)
 
-pub weekdays-apart : OwnNames weekdayNames × LeadBack weekdayNames
-unfolding all_rows weekdayNames numberNamed bytes lower lowered same
-weekdays-apart = (own-number weekdayNames weekdayNames refl, name_back weekdayNames weekdayNames refl)
+pub weekdays_apart : OwnNames weekday_names × LeadBack weekday_names
+unfolding all_rows weekday_names number_named bytes lower lowered same
+weekdays_apart = (own_number weekday_names weekday_names refl, name_back weekday_names weekday_names refl)
 
-pub requests-apart : OwnNames requestNames × LeadBack requestNames
-unfolding all_rows requestNames numberNamed bytes lower lowered same
-requests-apart = (own-number requestNames requestNames refl, name_back requestNames requestNames refl)
+pub requests_apart : OwnNames request_names × LeadBack request_names
+unfolding all_rows request_names number_named bytes lower lowered same
+requests_apart = (own_number request_names request_names refl, name_back request_names request_names refl)
 
 -- no name is longer than its field
-pub calendar-length : (c : ℕ) → length (name_of calendarNames c) ≤ 11
-unfolding all_rows calendarNames bytes
-calendar-length = name-length 11 calendarNames refl
+pub calendar_length : (c : ℕ) → length (name_of calendar_names c) ≤ 11
+unfolding all_rows calendar_names bytes
+calendar_length = name_length 11 calendar_names refl
 
-pub weekday-length : (d : ℕ) → length (name_of weekdayNames d) ≤ 9
-unfolding all_rows weekdayNames bytes
-weekday-length = name-length 9 weekdayNames refl
+pub weekday_length : (d : ℕ) → length (name_of weekday_names d) ≤ 9
+unfolding all_rows weekday_names bytes
+weekday_length = name_length 9 weekday_names refl

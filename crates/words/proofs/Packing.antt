@@ -11,13 +11,13 @@ use lib.Pow.{pow-add}
 use lib.Dec.{leb, ltb, eqb}
 use lib.ListN.{length, length-append}
 use borrow.Author.Tests.{ltb-true, lt-ltb, leb-true, le-leb, lt-leb, eqb-true, eq-eqb, ne_eqb}
-use Rattle.basics.proofs.Order.{le-or-lt}
+use Rattle.basics.proofs.Order.{le_or_lt}
 use Rattle.basics.proofs.Cases.{both, both_hold, fails, same_test}
 use Rattle.words.specs.declared.Word.TheVariants.{Letters, Other}
 use Rattle.words.specs.Text.{lower, lowered, same}
-use Rattle.words.specs.Words.{smallLetter, letterOf, allLetters, packedFrom, packed, word_of}
+use Rattle.words.specs.Words.{small_letter, letter_of, all_letters, packed_from, packed, word_of}
 use Rattle.words.specs.Packed.{pushed}
-use Rattle.words.specs.Inner.{letterByte, lettersIn}
+use Rattle.words.specs.Inner.{letter_byte, letters_in}
 
 -- ---- tests
 
@@ -39,9 +39,9 @@ same_self (b ∷ s) = both_hold (eqb b b) (same s s) (eq-eqb b b refl) (same_sel
 
 -- ---- one letter
 
-lower-twice : (b : ℕ) → lower (lower b) ≡ lower b
+lower_twice : (b : ℕ) → lower (lower b) ≡ lower b
 unfolding lower
-lower-twice b = go (leb 65 b && leb b 90) refl
+lower_twice b = go (leb 65 b && leb b 90) refl
   where
     go : (x : Bool) → (leb 65 b && leb b 90) ≡ x → lower (cond x (b + 32) b) ≡ cond x (b + 32) b
     go true e =
@@ -50,9 +50,9 @@ lower-twice b = go (leb 65 b && leb b 90) refl
         rw (le-leb 65 (b + 32) (omega arith), lt-leb (b + 32) 90 (omega arith))
     go false e = rw e
 
-letter-most : (b : ℕ) → smallLetter b < 32
-unfolding smallLetter
-letter-most b = go (leb 97 b && leb b 122) refl (eqb b 45)
+letter_most : (b : ℕ) → small_letter b < 32
+unfolding small_letter
+letter_most b = go (leb 97 b && leb b 122) refl (eqb b 45)
   where
     go : (x : Bool) → (leb 97 b && leb b 122) ≡ x → (y : Bool) → cond x (b - 96) (cond y 27 0) < 32
     go true e y = let p = both (leb 97 b) (leb b 122) e in omega (arith, leb-true b 122 p.1)
@@ -60,12 +60,12 @@ letter-most b = go (leb 97 b && leb b 122) refl (eqb b 45)
     go false e false = omega arith
 
 -- the byte of a letter's number is that letter
-letter-back : (b : ℕ) → 0 < smallLetter b → letterByte (smallLetter b) ≡ b
-unfolding smallLetter
-letter-back b = go (leb 97 b && leb b 122) refl (eqb b 45) refl
+letter_back : (b : ℕ) → 0 < small_letter b → letter_byte (small_letter b) ≡ b
+unfolding small_letter
+letter_back b = go (leb 97 b && leb b 122) refl (eqb b 45) refl
   where
     go : (x : Bool) → (leb 97 b && leb b 122) ≡ x → (y : Bool) → eqb b 45 ≡ y
-        → 0 < cond x (b - 96) (cond y 27 0) → letterByte (cond x (b - 96) (cond y 27 0)) ≡ b
+        → 0 < cond x (b - 96) (cond y 27 0) → letter_byte (cond x (b - 96) (cond y 27 0)) ≡ b
     go true e y f h =
         let p = both (leb 97 b) (leb b 122) e in
         let l = leb-true 97 b p.0 in
@@ -77,43 +77,43 @@ letter-back b = go (leb 97 b && leb b 122) refl (eqb b 45) refl
 -- ---- packing
 
 -- 5 bits more
-width-suc : (k : ℕ) → 2 ^ (5 * suc k) ≡ 2 ^ (5 * k) * 32
-width-suc k = let e : 5 * suc k ≡ 5 * k + 5 = omega arith in ap (λ (x : ℕ). 2 ^ x) e ∙ pow-add 2 (5 * k) 5
+width_suc : (k : ℕ) → 2 ^ (5 * suc k) ≡ 2 ^ (5 * k) * 32
+width_suc k = let e : 5 * suc k ≡ 5 * k + 5 = omega arith in ap (λ (x : ℕ). 2 ^ x) e ∙ pow-add 2 (5 * k) 5
 
-packed-from : (n : ℕ) (s : List ℕ) → packedFrom n s ≡ n * 2 ^ (5 * length s) + packed s
-unfolding packedFrom
-packed-from n [] = omega arith
-packed-from n (b ∷ s) =
-    rw width-suc (omega (arith, packed-from (n * 32 + letterOf b) s, packed-from (0 + letterOf b) s))
+packed_from_lem : (n : ℕ) (s : List ℕ) → packed_from n s ≡ n * 2 ^ (5 * length s) + packed s
+unfolding packed_from
+packed_from_lem n [] = omega arith
+packed_from_lem n (b ∷ s) =
+    rw width_suc (omega (arith, packed_from_lem (n * 32 + letter_of b) s, packed_from_lem (0 + letter_of b) s))
 
-packed-most : (s : List ℕ) → packed s < 2 ^ (5 * length s)
-unfolding packedFrom
-packed-most [] = omega arith
-packed-most (b ∷ s) =
-    let l : letterOf b ≤ 31 = omega (arith, letter-most (lower b)) in
-    omega (arith, width-suc (length s), packed-from (0 + letterOf b) s, packed-most s, mul-le-mul_right (2 ^ (5 * length s)) l)
+packed_most : (s : List ℕ) → packed s < 2 ^ (5 * length s)
+unfolding packed_from
+packed_most [] = omega arith
+packed_most (b ∷ s) =
+    let l : letter_of b ≤ 31 = omega (arith, letter_most (lower b)) in
+    omega (arith, width_suc (length s), packed_from_lem (0 + letter_of b) s, packed_most s, mul-le-mul_right (2 ^ (5 * length s)) l)
 
-packed-append : (n : ℕ) (s t : List ℕ) → packedFrom n (s ++ t) ≡ packedFrom (packedFrom n s) t
-unfolding packedFrom
-packed-append n [] t = refl
-packed-append n (b ∷ s) t = packed-append (n * 32 + letterOf b) s t
+packed_append : (n : ℕ) (s t : List ℕ) → packed_from n (s ++ t) ≡ packed_from (packed_from n s) t
+unfolding packed_from
+packed_append n [] t = refl
+packed_append n (b ∷ s) t = packed_append (n * 32 + letter_of b) s t
 
 -- capitals do not matter
-pub packed-lowered : (n : ℕ) (s : List ℕ) → packedFrom n (lowered s) ≡ packedFrom n s
-unfolding packedFrom lowered
-packed-lowered n [] = refl
-packed-lowered n (b ∷ s) =
-    ap (λ (x : ℕ). packedFrom (n * 32 + smallLetter x) (lowered s)) (lower-twice b) ∙ packed-lowered (n * 32 + letterOf b) s
+pub packed_lowered : (n : ℕ) (s : List ℕ) → packed_from n (lowered s) ≡ packed_from n s
+unfolding packed_from lowered
+packed_lowered n [] = refl
+packed_lowered n (b ∷ s) =
+    ap (λ (x : ℕ). packed_from (n * 32 + small_letter x) (lowered s)) (lower_twice b) ∙ packed_lowered (n * 32 + letter_of b) s
 
-pub letters-lowered : (s : List ℕ) → allLetters (lowered s) ≡ allLetters s
-unfolding allLetters lowered
-letters-lowered [] = refl
-letters-lowered (b ∷ s) = rw (lower-twice, letters-lowered s)
+pub letters_lowered : (s : List ℕ) → all_letters (lowered s) ≡ all_letters s
+unfolding all_letters lowered
+letters_lowered [] = refl
+letters_lowered (b ∷ s) = rw (lower_twice, letters_lowered s)
 
-pub length-lowered : (s : List ℕ) → length (lowered s) ≡ length s
+pub length_lowered : (s : List ℕ) → length (lowered s) ≡ length s
 unfolding lowered
-length-lowered [] = refl
-length-lowered (b ∷ s) = ap suc (length-lowered s)
+length_lowered [] = refl
+length_lowered (b ∷ s) = ap suc (length_lowered s)
 
 -- ---- unpacking
 
@@ -123,61 +123,61 @@ top m l w r h k =
     ap (λ (x : ℕ). x % 32) (mul-add-div_right (omega arith) (m * 32 + l) r ∙ ap (λ (x : ℕ). m * 32 + l + x) (div-eq_of_lt k)) ∙ omega arith
 
 -- a word's letters stand in its lowest places
-letters-of : (m : ℕ) (s : List ℕ) → allLetters s ≡ true → lettersIn (length s) (packedFrom m s) ≡ lowered s
-unfolding allLetters packedFrom lowered lettersIn
-letters-of m [] a = refl
-letters-of m (b ∷ s) a =
-    let p = both (ltb 0 (letterOf b)) (allLetters s) a in
-    let l = ltb-true 0 (letterOf b) p.0 in
+letters_of : (m : ℕ) (s : List ℕ) → all_letters s ≡ true → letters_in (length s) (packed_from m s) ≡ lowered s
+unfolding all_letters packed_from lowered letters_in
+letters_of m [] a = refl
+letters_of m (b ∷ s) a =
+    let p = both (ltb 0 (letter_of b)) (all_letters s) a in
+    let l = ltb-true 0 (letter_of b) p.0 in
     let w = 2 ^ (5 * length s) in
-    let d : packedFrom (m * 32 + letterOf b) s / w % 32 ≡ letterOf b = ap (λ (x : ℕ). x / w % 32) (packed-from (m * 32 + letterOf b) s)
-    ∙ top m (letterOf b) w (packed s) (letter-most (lower b)) (packed-most s) in
-    rw (d, ne_eqb (letterOf b) 0 (λ e. omega arith), letter-back (lower b) l, letters-of (m * 32 + letterOf b) s p.1)
+    let d : packed_from (m * 32 + letter_of b) s / w % 32 ≡ letter_of b = ap (λ (x : ℕ). x / w % 32) (packed_from_lem (m * 32 + letter_of b) s)
+    ∙ top m (letter_of b) w (packed s) (letter_most (lower b)) (packed_most s) in
+    rw (d, ne_eqb (letter_of b) 0 (λ e. omega arith), letter_back (lower b) l, letters_of (m * 32 + letter_of b) s p.1)
 
 -- and no others in the places above
-letters-above : (j k n : ℕ) → n < 2 ^ (5 * j) → lettersIn (j + k) n ≡ lettersIn j n
-unfolding lettersIn
-letters-above j zero n h = rw add-zero
-letters-above j (suc k) n h =
+letters_above : (j k n : ℕ) → n < 2 ^ (5 * j) → letters_in (j + k) n ≡ letters_in j n
+unfolding letters_in
+letters_above j zero n h = rw add-zero
+letters_above j (suc k) n h =
     let m : 5 * j ≤ 5 * (j + k) = omega arith in
     let z : n / 2 ^ (5 * (j + k)) ≡ 0 = div-eq_of_lt (omega (arith, pow-le-pow_right {n = 2} (omega arith) m)) in
-    rw (add-suc, z) (letters-above j k n h)
+    rw (add-suc, z) (letters_above j k n h)
 
-pub letters-back : (s : List ℕ) → allLetters s ≡ true → length s ≤ 12 → lettersIn 12 (packed s) ≡ lowered s
-letters-back s a h =
+pub letters_back : (s : List ℕ) → all_letters s ≡ true → length s ≤ 12 → letters_in 12 (packed s) ≡ lowered s
+letters_back s a h =
     let e : 12 ≡ length s + (12 - length s) = omega arith in
-    ap (λ (k : ℕ). lettersIn k (packed s)) e ∙ letters-above (length s) (12 - length s) (packed s) (packed-most s) ∙ letters-of 0 s a
+    ap (λ (k : ℕ). letters_in k (packed s)) e ∙ letters_above (length s) (12 - length s) (packed s) (packed_most s) ∙ letters_of 0 s a
 
 -- ---- one letter more
 
-letters-append : (s t : List ℕ) → allLetters (s ++ t) ≡ (allLetters s && allLetters t)
-unfolding allLetters
-letters-append [] t = refl
-letters-append (b ∷ s) t = rw (letters-append s t) (sym (and_assoc (ltb 0 (letterOf b)) (allLetters s) (allLetters t)))
+letters_append : (s t : List ℕ) → all_letters (s ++ t) ≡ (all_letters s && all_letters t)
+unfolding all_letters
+letters_append [] t = refl
+letters_append (b ∷ s) t = rw (letters_append s t) (sym (and_assoc (ltb 0 (letter_of b)) (all_letters s) (all_letters t)))
 
 -- a packing below 2^55 has no 12th letter
 short : (l k : ℕ) → 1 ≤ l → l * 2 ^ (5 * k) < 2 ^ 55 → k ≤ 10
 short l k h e =
     ⊎_elim (λ t. t) (λ t. absurd (omega (arith, pow-le-pow_right {n = 2} (omega arith) {i = 55} {j = 5 * k} (omega arith), mul-le-mul_right (2 ^ (5 * k)) h)))
-    (le-or-lt k 10)
+    (le_or_lt k 10)
 
 -- a word has room for a letter more where its packing fits in 55 bits
-room : (s : List ℕ) → allLetters s ≡ true → length s ≤ 12 → ltb (packed s) (2 ^ 55) ≡ leb (length s + 1) 12
-unfolding packedFrom allLetters
+room : (s : List ℕ) → all_letters s ≡ true → length s ≤ 12 → ltb (packed s) (2 ^ 55) ≡ leb (length s + 1) 12
+unfolding packed_from all_letters
 room [] a h = refl
 room (b ∷ s) a h =
-    let p = both (ltb 0 (letterOf b)) (allLetters s) a in
-    let l : 1 ≤ letterOf b = ltb-true 0 (letterOf b) p.0 in
-    let w = packed-from (0 + letterOf b) s in
+    let p = both (ltb 0 (letter_of b)) (all_letters s) a in
+    let l : 1 ≤ letter_of b = ltb-true 0 (letter_of b) p.0 in
+    let w = packed_from_lem (0 + letter_of b) s in
     alike (ltb (packed (b ∷ s)) (2 ^ 55)) (leb (suc (length s) + 1) 12)
-    (λ e. le-leb (suc (length s) + 1) 12 (omega (arith, short (letterOf b) (length s) l (omega (arith, ltb-true (packed (b ∷ s)) (2 ^ 55) e)))))
+    (λ e. le-leb (suc (length s) + 1) 12 (omega (arith, short (letter_of b) (length s) l (omega (arith, ltb-true (packed (b ∷ s)) (2 ^ 55) e)))))
     (λ e.
     let few : 5 * suc (length s) ≤ 55 = omega (arith, leb-true (suc (length s) + 1) 12 e) in
-    lt-ltb (packed (b ∷ s)) (2 ^ 55) (omega (arith, packed-most (b ∷ s), pow-le-pow_right {n = 2} (omega arith) {i = 5 * suc (length s)} {j = 55} few)))
+    lt-ltb (packed (b ∷ s)) (2 ^ 55) (omega (arith, packed_most (b ∷ s), pow-le-pow_right {n = 2} (omega arith) {i = 5 * suc (length s)} {j = 55} few)))
 
-pub read-on : (s : List ℕ) (b : ℕ) → word_of (s ++ b ∷ []) ≡ pushed (word_of s) b
-unfolding word_of pushed allLetters packedFrom
-read-on s b = go (leb (length s) 12 && allLetters s) refl
+pub read_on : (s : List ℕ) (b : ℕ) → word_of (s ++ b ∷ []) ≡ pushed (word_of s) b
+unfolding word_of pushed all_letters packed_from
+read_on s b = go (leb (length s) 12 && all_letters s) refl
   where
     next : List ℕ
     next = s ++ b ∷ []
@@ -185,18 +185,18 @@ read-on s b = go (leb (length s) 12 && allLetters s) refl
     size : length next ≡ length s + 1
     size = length-append s (b ∷ [])
 
-    letters : allLetters next ≡ (allLetters s && ltb 0 (letterOf b))
-    letters = letters-append s (b ∷ []) ∙ rw and-true
+    letters : all_letters next ≡ (all_letters s && ltb 0 (letter_of b))
+    letters = letters_append s (b ∷ []) ∙ rw and-true
 
-    go : (x : Bool) → (leb (length s) 12 && allLetters s) ≡ x → word_of next ≡ pushed (cond x (Letters (packed s)) Other) b
+    go : (x : Bool) → (leb (length s) 12 && all_letters s) ≡ x → word_of next ≡ pushed (cond x (Letters (packed s)) Other) b
     go true e =
-        let p = both (leb (length s) 12) (allLetters s) e in
-        rw (size, letters, p.1, packed-append 0 s (b ∷ []), room s p.1 (leb-true (length s) 12 p.0))
+        let p = both (leb (length s) 12) (all_letters s) e in
+        rw (size, letters, p.1, packed_append 0 s (b ∷ []), room s p.1 (leb-true (length s) 12 p.0))
     go false e =
-        let f : (leb (length next) 12 && allLetters next) ≡ false = fails (leb (length next) 12 && allLetters next) (λ t. let p = both (leb (length next) 12) (allLetters next) t in
+        let f : (leb (length next) 12 && all_letters next) ≡ false = fails (leb (length next) 12 && all_letters next) (λ t. let p = both (leb (length next) 12) (all_letters next) t in
         true≢false
         (sym
-        (both_hold (leb (length s) 12) (allLetters s) (le-leb (length s) 12 (omega (arith, size, leb-true (length next) 12 p.0)))
-        (both (allLetters s) (ltb 0 (letterOf b)) (sym letters ∙ p.1)).0)
+        (both_hold (leb (length s) 12) (all_letters s) (le-leb (length s) 12 (omega (arith, size, leb-true (length next) 12 p.0)))
+        (both (all_letters s) (ltb 0 (letter_of b)) (sym letters ∙ p.1)).0)
         ∙ e)) in
         rw f

@@ -6,25 +6,25 @@ use Rattle.words.specs.declared.Request.{Request}
 use Rattle.words.specs.declared.Request.TheVariants.{Day, Date, Months, Easter, Frame, Fit, Unfold, Calendars, Answers, Help, Unknown}
 use Rattle.words.specs.Text.{bytes, lowered, same}
 
-unfoldable pub calendarNames : List (ℕ × String)
-calendarNames =
+unfoldable pub calendar_names : List (ℕ × String)
+calendar_names =
     (1, "egyptian") ∷ (2, "armenian") ∷ (3, "khwarizmian") ∷ (4, "persian") ∷ (5, "ethiopian") ∷ (6, "coptic") ∷ (7, "republican") ∷ (8, "macedonian")
     ∷ (9, "syrian") ∷ (10, "julian") ∷ (11, "gregorian") ∷ (12, "islamic-a") ∷ (13, "islamic-b") ∷ (14, "bahai") ∷ (15, "saka") ∷ (18, "hebrew") ∷ []
 
-unfoldable pub weekdayNames : List (ℕ × String)
-weekdayNames =
+unfoldable pub weekday_names : List (ℕ × String)
+weekday_names =
     (1, "monday") ∷ (2, "tuesday") ∷ (3, "wednesday") ∷ (4, "thursday") ∷ (5, "friday") ∷ (6, "saturday") ∷ (7, "sunday") ∷ []
 
 -- help has three names
-unfoldable pub requestNames : List (ℕ × String)
-requestNames =
+unfoldable pub request_names : List (ℕ × String)
+request_names =
     (1, "day") ∷ (2, "date") ∷ (3, "months") ∷ (4, "easter") ∷ (5, "frame") ∷ (6, "fit") ∷ (7, "unfold") ∷ (8, "calendars") ∷ (9, "answers") ∷ (10, "help")
     ∷ (10, "--help") ∷ (10, "-h") ∷ []
 
 -- the number beside the name that a text is, its capitals made small; 0 where it is none
-unfoldable pub numberNamed : List (ℕ × String) → List ℕ → ℕ
-numberNamed [] text = 0
-numberNamed ((number, name) ∷ rest) text = cond (same (bytes name) (lowered text)) number (numberNamed rest text)
+unfoldable pub number_named : List (ℕ × String) → List ℕ → ℕ
+number_named [] text = 0
+number_named ((number, name) ∷ rest) text = cond (same (bytes name) (lowered text)) number (number_named rest text)
 
 -- the first name beside a number; empty where there is none
 unfoldable pub name_of : List (ℕ × String) → ℕ → List ℕ
@@ -32,10 +32,10 @@ name_of [] number = []
 name_of ((n, name) ∷ rest) number = cond (eqb n number) (bytes name) (name_of rest number)
 
 -- whether a number has a name
-unfoldable pub hasName : List (ℕ × String) → ℕ → Bool
-hasName [] number = false
-hasName ((n, name) ∷ rest) number = eqb n number || hasName rest number
+unfoldable pub has_name : List (ℕ × String) → ℕ → Bool
+has_name [] number = false
+has_name ((n, name) ∷ rest) number = eqb n number || has_name rest number
 
 -- the request of a number; 0 and numbers above 10 are of none
-unfoldable pub requestNumbered : ℕ → Request
-requestNumbered n = get_or (Unknown ∷ Day ∷ Date ∷ Months ∷ Easter ∷ Frame ∷ Fit ∷ Unfold ∷ Calendars ∷ Answers ∷ Help ∷ []) n Unknown
+unfoldable pub request_numbered : ℕ → Request
+request_numbered n = get_or (Unknown ∷ Day ∷ Date ∷ Months ∷ Easter ∷ Frame ∷ Fit ∷ Unfold ∷ Calendars ∷ Answers ∷ Help ∷ []) n Unknown

@@ -4,11 +4,11 @@ use Prim.Native.String.{String}
 use Rattle.words.specs.declared.Word.{Word}
 use Rattle.words.specs.declared.Word.TheVariants.{Letters, Other}
 use Rattle.words.specs.Text.{bytes}
-use Rattle.words.specs.Words.{letterOf, packed}
+use Rattle.words.specs.Words.{letter_of, packed}
 
 -- with one byte more: a word that has room for it has at most 11 letters, and so fits in 55 bits
 unfoldable pub pushed : Word → ℕ → Word
-pushed (Letters n) b = cond (ltb n (2 ^ 55) && ltb 0 (letterOf b)) (Letters (n * 32 + letterOf b)) Other
+pushed (Letters n) b = cond (ltb n (2 ^ 55) && ltb 0 (letter_of b)) (Letters (n * 32 + letter_of b)) Other
 pushed Other b = Other
 
 -- whether a word is this text
@@ -17,6 +17,6 @@ spells (Letters n) text = eqb (packed (bytes text)) n
 spells Other text = false
 
 -- the number beside the name that a word spells; 0 where it spells none
-unfoldable pub numberPacked : List (ℕ × String) → Word → ℕ
-numberPacked [] word = 0
-numberPacked ((number, name) ∷ rest) word = cond (spells word name) number (numberPacked rest word)
+unfoldable pub number_packed : List (ℕ × String) → Word → ℕ
+number_packed [] word = 0
+number_packed ((number, name) ∷ rest) word = cond (spells word name) number (number_packed rest word)

@@ -1,11 +1,13 @@
 // The words of requests, calendars and weekdays: read byte by byte, looked up in one table each, and written.
 // `proofs/Claims.antt` is the page to read first.
+#![tactic(auto)]
+
 ghost use Rattle.std.specs.Prelude.{◌≡◌, ◌++◌, ◌≤◌, length, take, drop, get_or};
 ghost use Rattle.words.specs.Text.{lower};
-ghost use Rattle.words.specs.Names.{calendarNames, weekdayNames, requestNames, requestNumbered, name_of};
-ghost use Rattle.words.specs.Words.{letterOf};
-ghost use Rattle.words.specs.Packed.{pushed, spells, numberPacked};
-ghost use Rattle.words.specs.Inner.{letterByte, lettersIn, place_of};
+ghost use Rattle.words.specs.Names.{calendar_names, weekday_names, request_names, request_numbered, name_of};
+ghost use Rattle.words.specs.Words.{letter_of};
+ghost use Rattle.words.specs.Packed.{pushed, spells, number_packed};
+ghost use Rattle.words.specs.Inner.{letter_byte, letters_in, place_of};
 
 // The packed names, each at its number; 0 where a number has none.
 const CALENDARS: [u64; 19] = [
@@ -82,7 +84,7 @@ fn lower_case(byte: u8) -> u8
 
 // The number of a letter or hyphen, 1 to 27; 0 of any other byte.
 fn letter(byte: u8) -> u8
-    ensures { result ≡ letterOf byte }
+    ensures { result ≡ letter_of byte }
 {
     let small = lower_case(byte);
     if (b'a' <= small) & (small <= b'z') {
@@ -130,14 +132,14 @@ fn find(table: &[u64], word: Word) -> u64
 
 // The calendar that a word names; 0 where it names none.
 pub fn calendar(word: Word) -> u64
-    ensures { result ≡ numberPacked calendarNames word }
+    ensures { result ≡ number_packed calendar_names word }
 {
     find(&CALENDARS, word)
 }
 
 // The weekday that a word names, 1 Monday to 7 Sunday; 0 where it names none.
 pub fn weekday(word: Word) -> u64
-    ensures { result ≡ numberPacked weekdayNames word }
+    ensures { result ≡ number_packed weekday_names word }
 {
     find(&WEEKDAYS, word)
 }
@@ -177,7 +179,7 @@ const REQUEST_OF_PLACE: [Request; 13] = [
 
 // The request that a word names.
 pub fn request_of(word: Word) -> Request
-    ensures { result ≡ requestNumbered (numberPacked requestNames word) }
+    ensures { result ≡ request_numbered (number_packed request_names word) }
 {
     let place = find(&REQUESTS, word) as usize;
     REQUEST_OF_PLACE[place]
@@ -195,7 +197,7 @@ pub fn is_all(word: Word) -> bool
 
 // The byte of a letter.
 fn byte(letter: u64) -> u8
-    ensures { result ≡ letterByte letter }
+    ensures { result ≡ letter_byte letter }
 {
     if letter == 27 {
         return b'-';
@@ -206,7 +208,7 @@ fn byte(letter: u64) -> u8
 // Writes a packed word's letters at the front, and answers how many.
 fn write(packed: u64, out: &mut [u8]) -> usize
     requires { 12 ≤ length out.old }
-    ensures { (result ≡ length (lettersIn 12 packed)) × (out.new ≡ lettersIn 12 packed ++ drop result out.old) }
+    ensures { (result ≡ length (letters_in 12 packed)) × (out.new ≡ letters_in 12 packed ++ drop result out.old) }
 {
     let mut at: usize = 0;
     let mut k: u64 = 12;
@@ -224,8 +226,8 @@ fn write(packed: u64, out: &mut [u8]) -> usize
 // Writes the word at a place of a table.
 fn write_at(table: &[u64], place: u64, out: &mut [u8]) -> usize
     requires { 12 ≤ length out.old }
-    ensures { (result ≡ length (lettersIn 12 (get_or table.now place 0)))
-        × (out.new ≡ lettersIn 12 (get_or table.now place 0) ++ drop result out.old) }
+    ensures { (result ≡ length (letters_in 12 (get_or table.now place 0)))
+        × (out.new ≡ letters_in 12 (get_or table.now place 0) ++ drop result out.old) }
 {
     let at = place as usize;
     if at < table.len() {
@@ -236,20 +238,20 @@ fn write_at(table: &[u64], place: u64, out: &mut [u8]) -> usize
 
 // Writes a calendar's name at the front of the buffer, and answers its length; nothing where it has none.
 pub fn calendar_name(calendar: u64, out: &mut [u8; 12]) -> usize
-    ensures written { out.new ≡ name_of calendarNames calendar ++ drop result out.old }
-    ensures size { result ≡ length (name_of calendarNames calendar) }
+    ensures written { out.new ≡ name_of calendar_names calendar ++ drop result out.old }
+    ensures size { result ≡ length (name_of calendar_names calendar) }
     ensures within { (result ≤ length out.new) × (result ≡ length (take result out.new)) }
-    ensures front { take result out.new ≡ name_of calendarNames calendar }
+    ensures front { take result out.new ≡ name_of calendar_names calendar }
 {
     write_at(&CALENDARS, calendar, out)
 }
 
 // A weekday's name likewise.
 pub fn weekday_name(weekday: u64, out: &mut [u8; 12]) -> usize
-    ensures written { out.new ≡ name_of weekdayNames weekday ++ drop result out.old }
-    ensures size { result ≡ length (name_of weekdayNames weekday) }
+    ensures written { out.new ≡ name_of weekday_names weekday ++ drop result out.old }
+    ensures size { result ≡ length (name_of weekday_names weekday) }
     ensures within { (result ≤ length out.new) × (result ≡ length (take result out.new)) }
-    ensures front { take result out.new ≡ name_of weekdayNames weekday }
+    ensures front { take result out.new ≡ name_of weekday_names weekday }
 {
     write_at(&WEEKDAYS, weekday, out)
 }

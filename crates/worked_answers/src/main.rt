@@ -1,4 +1,6 @@
 // Runs the proved functions on the worked examples of docs/RULES.md and on inputs that are refused, and writes the answers.
+#![tactic(auto)]
+
 mod examples;
 mod limits;
 mod output;

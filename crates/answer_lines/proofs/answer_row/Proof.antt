@@ -2,7 +2,7 @@
 use borrow.Author.Rules.{rules}
 use Rattle.words.specs.Text.{bytes}
 use Rattle.texts.proofs.Writing.{then, counts}
-use Rattle.answer_lines.specs.Lines.{answerRow}
+use Rattle.answer_lines.specs.Lines.{answer_row}
 use Rattle.answer_lines.proofs.answer_row.Statement.{statement}
 use Rattle.answer_lines.proofs.answer_row.Tie as tie
 
@@ -19,7 +19,7 @@ same_length : tie.Need-same-length
 same_length c = search rules
 
 returns : tie.Need-returns
-unfolding answerRow bytes
+unfolding answer_row bytes
 returns c =
     let p3 = c.before.before in
     let p2 = p3.before.before.before.before in

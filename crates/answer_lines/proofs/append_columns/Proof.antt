@@ -4,7 +4,7 @@ use mir.ValLaws.{to_z-of_z}
 use borrow.Author.Rules.{rules}
 use Rattle.words.specs.Text.{bytes}
 use Rattle.texts.proofs.Writing.{then}
-use Rattle.answer_lines.specs.Lines.{dateColumns}
+use Rattle.answer_lines.specs.Lines.{date_columns}
 use Rattle.answer_lines.proofs.append_columns.Statement.{statement}
 use Rattle.answer_lines.proofs.append_columns.Tie as tie
 
@@ -27,7 +27,7 @@ same_length : tie.Need-same-length
 same_length c = search rules
 
 returns : tie.Need-returns
-unfolding dateColumns bytes
+unfolding date_columns bytes
 returns c =
     let p6 = c.before.before in
     let p5 = p6.before.before.before.before in

@@ -4,7 +4,7 @@ use mir.ValLaws.{to_z-of_z}
 use borrow.Author.Rules.{rules}
 use Rattle.words.specs.Text.{bytes}
 use Rattle.texts.proofs.Writing.{then}
-use Rattle.answer_lines.specs.Lines.{dateText}
+use Rattle.answer_lines.specs.Lines.{date_text}
 use Rattle.answer_lines.proofs.append_date.Statement.{statement}
 use Rattle.answer_lines.proofs.append_date.Tie as tie
 
@@ -33,7 +33,7 @@ same_length : tie.Need-same-length
 same_length c = search rules
 
 returns : tie.Need-returns
-unfolding dateText bytes
+unfolding date_text bytes
 returns c =
     let p9 = c.before.before in
     let p8 = p9.before.before.before.before in

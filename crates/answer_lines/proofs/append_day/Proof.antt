@@ -2,7 +2,7 @@
 use borrow.Author.Rules.{rules}
 use Rattle.words.specs.Text.{bytes}
 use Rattle.texts.proofs.Writing.{then}
-use Rattle.answer_lines.specs.Lines.{dayText}
+use Rattle.answer_lines.specs.Lines.{day_text}
 use Rattle.answer_lines.proofs.append_day.Statement.{statement}
 use Rattle.answer_lines.proofs.append_day.Tie as tie
 
@@ -22,7 +22,7 @@ same_length : tie.Need-same-length
 same_length c = search rules
 
 returns : tie.Need-returns
-unfolding dayText bytes
+unfolding day_text bytes
 returns c =
     let p4 = c.before.before in
     let p3 = p4.before.before in

@@ -1,7 +1,7 @@
 -- `answer_lines::day_line` meets its contract: a day, or a refusal.
 use borrow.Author.Rules.{rules}
 use Rattle.texts.proofs.Writing.{counts}
-use Rattle.answer_lines.specs.Lines.{dayLine, orRefusal}
+use Rattle.answer_lines.specs.Lines.{day_line, or_refusal}
 use Rattle.answer_lines.proofs.Refusals.{refused}
 use Rattle.answer_lines.proofs.day_line.Statement.{statement}
 use Rattle.answer_lines.proofs.day_line.Tie as tie
@@ -22,7 +22,7 @@ same_length : tie.Need-same-length
 same_length c = search rules
 
 returns : tie.Need-returns
-unfolding dayLine orRefusal
+unfolding day_line or_refusal
 returns c =
     let p2 = c.before.before in
     let p1 = p2.before.before.before in
@@ -33,7 +33,7 @@ same-length-2 : tie.Need-same-length-2
 same-length-2 c = search rules
 
 returns-2 : tie.Need-returns-2
-unfolding dayLine orRefusal
+unfolding day_line or_refusal
 returns-2 c =
     let p2 = c.before.before in
     let p1 = p2.before.before.before in

@@ -3,7 +3,7 @@ use mir.Syntax.{w64}
 use mir.ValLaws.{to_z-of_z}
 use borrow.Author.Rules.{rules}
 use Rattle.texts.proofs.Writing.{then, counts}
-use Rattle.answer_lines.specs.Lines.{easterRow, orRefusal}
+use Rattle.answer_lines.specs.Lines.{easter_row, or_refusal}
 use Rattle.answer_lines.proofs.Refusals.{refused}
 use Rattle.answer_lines.proofs.easter_row.Statement.{statement}
 use Rattle.answer_lines.proofs.easter_row.Tie as tie
@@ -27,7 +27,7 @@ same_length : tie.Need-same-length
 same_length c = search rules
 
 returns : tie.Need-returns
-unfolding easterRow orRefusal
+unfolding easter_row or_refusal
 returns c =
     let p4 = c.before.before in
     let p3 = p4.before.before.before in
@@ -41,7 +41,7 @@ same-length-2 : tie.Need-same-length-2
 same-length-2 c = search rules
 
 returns-2 : tie.Need-returns-2
-unfolding easterRow orRefusal
+unfolding easter_row or_refusal
 returns-2 c =
     let p3 = c.before.before in
     let p2 = p3.before.before.before in

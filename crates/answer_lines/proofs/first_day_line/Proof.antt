@@ -2,7 +2,7 @@
 use borrow.Author.Rules.{rules}
 use Rattle.words.specs.Text.{bytes}
 use Rattle.texts.proofs.Writing.{then, counts}
-use Rattle.answer_lines.specs.Lines.{firstDayLine, orRefusal}
+use Rattle.answer_lines.specs.Lines.{first_day_line, or_refusal}
 use Rattle.answer_lines.proofs.Refusals.{refused}
 use Rattle.answer_lines.proofs.first_day_line.Statement.{statement}
 use Rattle.answer_lines.proofs.first_day_line.Tie as tie
@@ -29,7 +29,7 @@ same_length : tie.Need-same-length
 same_length c = search rules
 
 returns : tie.Need-returns
-unfolding firstDayLine orRefusal bytes
+unfolding first_day_line or_refusal bytes
 returns c =
     let p3 = c.before.before in
     let p2 = p3.before.before.before in
@@ -41,7 +41,7 @@ same-length-2 : tie.Need-same-length-2
 same-length-2 c = search rules
 
 returns-2 : tie.Need-returns-2
-unfolding firstDayLine orRefusal bytes
+unfolding first_day_line or_refusal bytes
 returns-2 c =
     let p3 = c.before.before in
     let p2 = p3.before.before.before in

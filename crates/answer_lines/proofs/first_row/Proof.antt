@@ -4,7 +4,7 @@ use mir.ValLaws.{to_z-of_z}
 use borrow.Author.Rules.{rules}
 use Rattle.words.specs.Text.{bytes}
 use Rattle.texts.proofs.Writing.{then, counts}
-use Rattle.answer_lines.specs.Lines.{firstRow}
+use Rattle.answer_lines.specs.Lines.{first_row}
 use Rattle.answer_lines.proofs.first_row.Statement.{statement}
 use Rattle.answer_lines.proofs.first_row.Tie as tie
 
@@ -24,7 +24,7 @@ same_length : tie.Need-same-length
 same_length c = search rules
 
 returns : tie.Need-returns
-unfolding firstRow bytes
+unfolding first_row bytes
 returns c =
     let p5 = c.before.before in
     let p4 = p5.before.before.before.before in

@@ -2,7 +2,7 @@
 use borrow.Author.Rules.{rules}
 use Rattle.words.specs.Text.{bytes}
 use Rattle.texts.proofs.Writing.{then, counts}
-use Rattle.answer_lines.specs.Lines.{positionRow}
+use Rattle.answer_lines.specs.Lines.{position_row}
 use Rattle.answer_lines.proofs.position_row.Statement.{statement}
 use Rattle.answer_lines.proofs.position_row.Tie as tie
 
@@ -28,7 +28,7 @@ same_length : tie.Need-same-length
 same_length c = search rules
 
 returns : tie.Need-returns
-unfolding positionRow bytes
+unfolding position_row bytes
 returns c =
     let p6 = c.before.before in
     let p5 = p6.before.before in

@@ -8,12 +8,12 @@ use lib.IntN.{pos, negsuc}
 use borrow.Author.Tests.{eqb-true, eqb-false, not-true, not-false}
 use Rattle.counting.specs.Answers.{years}
 use Rattle.calendar_rules.specs.Calendars.{bahai}
-use Rattle.months.specs.BahaiSaka.{bahaiBefore, bahaiOf}
-use Rattle.months.proofs.Gregorian.{year-small}
-use Rattle.months.proofs.Dates.{early-place, later-place}
-use Rattle.months.proofs.LeapLast.{date-in}
-use Rattle.months.proofs.GregorianKind.{kind-date}
-use Rattle.months.proofs.BahaiSaka.{bahai-kind, bahai-room}
+use Rattle.months.specs.BahaiSaka.{bahai_before, bahai_of}
+use Rattle.months.proofs.Gregorian.{year_small}
+use Rattle.months.proofs.Dates.{early_place, later_place}
+use Rattle.months.proofs.LeapLast.{date_in}
+use Rattle.months.proofs.GregorianKind.{kind_date}
+use Rattle.months.proofs.BahaiSaka.{bahai_kind, bahai_room}
 use borrow.Author.Rules.{rules}
 use Rattle.bahai.proofs.date_on.Statement.{statement}
 use Rattle.bahai.proofs.date_on.Tie as tie
@@ -22,7 +22,7 @@ nowhere-requires : tie.Need-nowhere-requires
 nowhere-requires c κs = search rules
 
 returns : tie.Need-returns
-returns c = early-place (years bahai) (pos 1) 2394647 c.before.before.args.day _ _ _ (omega arith) c.nowhere.ensures
+returns c = early_place (years bahai) (pos 1) 2394647 c.before.before.args.day _ _ _ (omega arith) c.nowhere.ensures
 
 year-of-requires : tie.Need-year-of-requires
 year-of-requires c κs = search rules
@@ -34,7 +34,7 @@ mul-d : tie.Need-overflow-mul-d
 mul-d c = search rules
 
 sub-d : tie.Need-overflow-sub-d
-sub-d c = omega (arith, bahai-room c.year-of.result.rest (omega (arith, (year-small c.year-of.ensures).1)))
+sub-d c = omega (arith, bahai_room c.year_of_lem.result.rest (omega (arith, (year_small c.year_of_lem.ensures).1)))
 
 add-d : tie.Need-overflow-add-d
 add-d c = search rules
@@ -61,10 +61,10 @@ returns-2 c =
     let y = w.before in
     let day = y.before.before.args.day in
     let p = c.IsPlace-in.ensures in
-    let q = 27 * y.year-of.result.rest / 512 in
-    later-place (years bahai) (pos 1) 2394647 day _ _ _ (omega arith)
-    (kind-date bahai-kind (negsuc 6643) refl day _ _ _ _ _ (omega arith) y.year-of.ensures
-    (date-in 20 bahaiBefore bahaiOf (negsuc 6643) 1 _ y.year-of.result.rest q (not (eqb q 0)) q 20 _ _ _ refl
+    let q = 27 * y.year_of_lem.result.rest / 512 in
+    later_place (years bahai) (pos 1) 2394647 day _ _ _ (omega arith)
+    (kind_date bahai_kind (negsuc 6643) refl day _ _ _ _ _ (omega arith) y.year_of_lem.ensures
+    (date_in 20 bahai_before bahai_of (negsuc 6643) 1 _ y.year_of_lem.result.rest q (not (eqb q 0)) q 20 _ _ _ refl
     (λ e. omega (arith, eqb-false q 0 (not-true (eqb q 0) e))) (λ e. omega (arith, eqb-true q 0 (not-false (eqb q 0) e)))
     (rw w.pick.ensures.0 at p.0) (rw m.pick2.ensures.0 at p.1) p.2))
 

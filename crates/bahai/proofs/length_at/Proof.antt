@@ -5,14 +5,14 @@ use Rattle.counting.specs.Answers.{years}
 use Rattle.calendar_rules.specs.Calendars.{bahai}
 use Rattle.months.proofs.Dates.{no_length}
 use Rattle.months.proofs.LeapLast.{wrapped}
-use Rattle.months.proofs.GregorianKind.{kind-positions, kind-month}
-use Rattle.months.proofs.BahaiSaka.{bahai-kind}
+use Rattle.months.proofs.GregorianKind.{kind_positions, kind_month}
+use Rattle.months.proofs.BahaiSaka.{bahai_kind}
 use borrow.Author.Rules.{rules}
 use Rattle.bahai.proofs.length_at.Statement.{statement}
 use Rattle.bahai.proofs.length_at.Tie as tie
 
 returns : tie.Need-returns
-returns c = let s = c.before in no_length (years bahai) s.args.i s.args.p (omega (arith, kind-positions bahai-kind s.args.i))
+returns c = let s = c.before in no_length (years bahai) s.args.i s.args.p (omega (arith, kind_positions bahai_kind s.args.i))
 
 add-pick : tie.Need-overflow-add-pick
 add-pick c = search rules
@@ -45,7 +45,7 @@ returns-2 : tie.Need-returns-2
 returns-2 c =
     let w = c.before in
     let s = w.before.before in
-    (kind-month bahai-kind s.args.i s.args.p _ _ _ _ (omega arith) refl refl refl (rw w.pick.ensures.0 at c.counted-length.ensures)).length-is
+    (kind_month bahai_kind s.args.i s.args.p _ _ _ _ (omega arith) refl refl refl (rw w.pick.ensures.0 at c.counted-length.ensures)).length_is
 
 pub length-at-spec : {M : Type 1} → statement M
 length-at-spec =

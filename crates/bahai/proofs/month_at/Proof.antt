@@ -3,16 +3,16 @@ use mathlib.Core.Path.{refl}
 use native.Mathlib.Omega.{arith}
 use Rattle.counting.specs.Answers.{years}
 use Rattle.calendar_rules.specs.Calendars.{bahai}
-use Rattle.months.proofs.Dates.{no-month}
+use Rattle.months.proofs.Dates.{no_month_lem}
 use Rattle.months.proofs.LeapLast.{wrapped}
-use Rattle.months.proofs.GregorianKind.{kind-positions, kind-month}
-use Rattle.months.proofs.BahaiSaka.{bahai-kind}
+use Rattle.months.proofs.GregorianKind.{kind_positions, kind_month}
+use Rattle.months.proofs.BahaiSaka.{bahai_kind}
 use borrow.Author.Rules.{rules}
 use Rattle.bahai.proofs.month_at.Statement.{statement}
 use Rattle.bahai.proofs.month_at.Tie as tie
 
 returns : tie.Need-returns
-returns c = let s = c.before in no-month (years bahai) 2394647 s.args.i s.args.p 0 (omega (arith, kind-positions bahai-kind s.args.i))
+returns c = let s = c.before in no_month_lem (years bahai) 2394647 s.args.i s.args.p 0 (omega (arith, kind_positions bahai_kind s.args.i))
 
 add-pick : tie.Need-overflow-add-pick
 add-pick c = search rules
@@ -60,7 +60,7 @@ returns-2 c =
     let y = c.before in
     let w = y.before in
     let s = w.before.before in
-    kind-month bahai-kind s.args.i s.args.p _ _ y.year-start.result _ (omega arith) refl (rw w.pick.ensures.0 at y.year-start.ensures)
+    kind_month bahai_kind s.args.i s.args.p _ _ y.year-start.result _ (omega arith) refl (rw w.pick.ensures.0 at y.year-start.ensures)
     (omega (arith, w.pick.ensures.0)) (rw w.pick.ensures.0 at c.counted-length.ensures)
 
 pub month-at-spec : {M : Type 1} → statement M

@@ -5,19 +5,19 @@ use native.Mathlib.Omega.{arith}
 use lib.IntN.{ℤ}
 use mir.Syntax.{w64}
 use mir.ValLaws.{to_z-of_z}
-use Rattle.calendar_rules.specs.Answers.{dayAnswerWith}
-use Rattle.calendar_rules.proofs.Claims.{no-weekday}
-use Rattle.asking.specs.Steps.{packedDay}
+use Rattle.calendar_rules.specs.Answers.{day_answer_with}
+use Rattle.calendar_rules.proofs.Claims.{no_weekday}
+use Rattle.asking.specs.Steps.{packed_day}
 use Rattle.asking.proofs.Answers.{fields}
 use Rattle.c_dates.specs.declared.DayFields.{DayFields}
-use Rattle.c_dates.specs.Fields.{dayFields}
+use Rattle.c_dates.specs.Fields.{day_fields}
 use borrow.Author.Rules.{rules}
 use Rattle.c_dates.proofs.ijok_date_to_day.Statement.{statement}
 use Rattle.c_dates.proofs.ijok_date_to_day.Tie as tie
 
 -- the fields of an answer as one number
-split : (c : ℕ) (y : ℤ) (m d w r : ℕ) (x : DayFields) → (x.number ≡ r / 4294967296) × (x.day ≡ r % 4294967296) → r ≡ packedDay (dayAnswerWith c y m d w)
-    → dayFields x ≡ dayAnswerWith c y m d w
+split : (c : ℕ) (y : ℤ) (m d w r : ℕ) (x : DayFields) → (x.number ≡ r / 4294967296) × (x.day ≡ r % 4294967296) → r ≡ packed_day (day_answer_with c y m d w)
+    → day_fields x ≡ day_answer_with c y m d w
 split c y m d w r x p e = (λ i. record { number = p.0 i; day = p.1 i }) ∙ fields c y m d w r e
 
 hebrew-day-requires : tie.Need-hebrew-day-requires
@@ -36,7 +36,7 @@ returns c =
     rw (e, f)
     (split 18 s.args.year s.args.month s.args.day 0 h.hebrew-day.result c.day-fields.result c.day-fields.ensures
     ((rw (to_z-of_z w64 s.args.year s.ranges.year) at h.hebrew-day.ensures)
-    ∙ ap packedDay (sym (no-weekday 18 s.args.year s.args.month s.args.day))))
+    ∙ ap packed_day (sym (no_weekday 18 s.args.year s.args.month s.args.day))))
 
 packed-day-requires : tie.Need-packed-day-requires
 packed-day-requires c κs = search rules

@@ -3,7 +3,7 @@ use borrow.Author.Rules.{rules}
 use mathlib.Core.Path.{ap, ◌∙◌}
 use mir.Syntax.{w64}
 use mir.ValLaws.{to_z-of_z}
-use Rattle.c_dates.specs.Fields.{positionFields}
+use Rattle.c_dates.specs.Fields.{position_fields}
 use Rattle.c_dates.proofs.ijok_position.Statement.{statement}
 use Rattle.c_dates.proofs.ijok_position.Tie as tie
 
@@ -16,7 +16,7 @@ position-fields-requires c κs = search rules
 returns : tie.Need-returns
 returns c =
     let s = c.before.before in
-    c.position-fields.ensures ∙ ap positionFields (rw (to_z-of_z w64 s.args.year s.ranges.year) at c.before.position-of.ensures)
+    c.position-fields.ensures ∙ ap position_fields (rw (to_z-of_z w64 s.args.year s.ranges.year) at c.before.position-of.ensures)
 
 pub ijok-position-spec : {M : Type 1} → statement M
 ijok-position-spec = tie.close (tie.spec position-of-requires position-fields-requires returns)

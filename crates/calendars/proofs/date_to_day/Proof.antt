@@ -4,8 +4,8 @@ use Prim.Native.Nat.{ℕ, suc, ◌/◌, ◌<◌}
 use native.Mathlib.Omega.{arith}
 use mir.Syntax.{w64}
 use mir.ValLaws.{to_z-of_z}
-use Rattle.counting.specs.Answers.{DayAnswer, noDayAnswer}
-use Rattle.calendar_rules.specs.Answers.{dayAnswerWith}
+use Rattle.counting.specs.Answers.{DayAnswer, no_day_answer}
+use Rattle.calendar_rules.specs.Answers.{day_answer_with}
 use Rattle.asking.proofs.Answers.{unpacks}
 use borrow.Author.Rules.{rules}
 use Rattle.calendars.proofs.date_to_day.Statement.{statement}
@@ -15,10 +15,10 @@ use Rattle.calendars.proofs.date_to_day.Tie as tie
 read : (a : tie.After-packed-day)
     → let s = a.before.before in
     let r = a.packed-day.result in
-    let x = dayAnswerWith s.args.calendar s.args.date.year s.args.date.month s.args.date.day s.args.date.weekday in
+    let x = day_answer_with s.args.calendar s.args.date.year s.args.date.month s.args.date.day s.args.date.weekday in
     (5 < r / 4294967296 → ¬ (r / 4294967296 ≡ 13) → r / 4294967296 ≡ 17)
     × (r / 4294967296 ≡ 0 → ◌≡◌ {A = DayAnswer} (record { number = 0; day = r }) x)
-    × ((k : ℕ) → r / 4294967296 ≡ suc k → noDayAnswer (suc k) ≡ x)
+    × ((k : ℕ) → r / 4294967296 ≡ suc k → no_day_answer (suc k) ≡ x)
 read a =
     let s = a.before.before in
     unpacks s.args.calendar s.args.date.year s.args.date.month s.args.date.day s.args.date.weekday a.packed-day.result

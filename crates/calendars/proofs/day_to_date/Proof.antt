@@ -2,7 +2,7 @@
 use mathlib.Core.Path.{sym, ◌∙◌}
 use mir.Syntax.{w64}
 use mir.ValLaws.{to_z-of_z}
-use Rattle.asking.proofs.Answers.{date-given}
+use Rattle.asking.proofs.Answers.{date_given}
 use borrow.Author.Rules.{rules}
 use Rattle.calendars.proofs.day_to_date.Statement.{statement}
 use Rattle.calendars.proofs.day_to_date.Tie as tie
@@ -18,7 +18,7 @@ weekday-of-requires c κs = search rules
 
 returns : tie.Need-returns
 returns c =
-    c.no-date.ensures
+    c.no_date.ensures
 
 returns-2 : tie.Need-returns-2
 returns-2 c =
@@ -28,7 +28,7 @@ returns-2 c =
     let s = p.before in
     let f = p.place.ensures in
     let n = e.if1.false in
-    let z = date-given s.args.calendar s.args.day (λ e. n (f.month ∙ e)) in
+    let z = date_given s.args.calendar s.args.day (λ e. n (f.month ∙ e)) in
     let g = f.rest n in
     let w = a.weekday-of.ensures ∙ z.1 in
     rw (to_z-of_z w64 p.place.result.year (record { sfits = c.struct_told.given.0.1 }))

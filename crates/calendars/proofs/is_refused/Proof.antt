@@ -1,6 +1,6 @@
 -- `calendars::is_refused` meets its contract.
 use mathlib.Core.Path.{refl}
-use Rattle.refusals.proofs.Claims.{not-zero}
+use Rattle.refusals.proofs.Claims.{not_zero}
 use borrow.Author.Rules.{rules}
 use Rattle.calendars.proofs.is_refused.Statement.{statement}
 use Rattle.calendars.proofs.is_refused.Tie as tie
@@ -27,7 +27,7 @@ returns-3 : tie.Need-returns-3
 returns-3 c = rw c.enum-told3.given.1 refl
 
 returns-4 : tie.Need-returns-4
-returns-4 c = rw (c.enum-told4.given.1, not-zero c.enum-told4.given.0.0) refl
+returns-4 c = rw (c.enum-told4.given.1, not_zero c.enum-told4.given.0.0) refl
 
 pub is-refused-spec : {M : Type 1} → statement M
 is-refused-spec =

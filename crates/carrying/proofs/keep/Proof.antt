@@ -6,7 +6,7 @@ use native.Mathlib.Omega.{arith}
 use lib.ListN.{length, take}
 use borrow.Author.Rules.{rules}
 use Rattle.streaming.proofs.Kept.{Keeping, one_more, full, passed}
-use Rattle.carrying.specs.Kept.{most, keptOf}
+use Rattle.carrying.specs.Kept.{most, kept_of}
 use Rattle.carrying.proofs.keep.Statement.{statement}
 use Rattle.carrying.proofs.keep.Tie as tie
 
@@ -20,7 +20,7 @@ loop-holds : tie.Need-loop-init invariant-loop decreases-loop
 loop-holds c = record { size = search rules; place = omega arith; front = refl }
 
 returns : tie.Need-returns invariant-loop decreases-loop
-unfolding keptOf
+unfolding kept_of
 returns c = full c.before.before.loop.invariant (omega (arith, c.if1.true))
 
 shared-slice-read-bytes : tie.Need-shared-slice-read-bytes invariant-loop decreases-loop
@@ -42,7 +42,7 @@ loop-again : tie.Need-loop-preserved invariant-loop decreases-loop
 loop-again c = one_more c.before.before.before.loop.invariant (omega arith) (omega arith)
 
 returns-2 : tie.Need-returns-2 invariant-loop decreases-loop
-unfolding keptOf
+unfolding kept_of
 returns-2 c = passed c.before.loop.invariant (omega arith)
 
 pub keep_spec : {M : Type 1} → statement M

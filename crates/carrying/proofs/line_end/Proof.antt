@@ -4,13 +4,13 @@ use Prim.Native.Nat.{◌+◌, ◌-◌, ◌≤◌}
 use native.Mathlib.Numerals.{add-one}
 use native.Mathlib.Omega.{arith}
 use lib.ListN.{length, drop, drop_of_length-le}
-use Rattle.carrying.specs.Kept.{lineEnd}
-use Rattle.carrying.proofs.Ends.{at-newline, past-other, at-end}
+use Rattle.carrying.specs.Kept.{line_end}
+use Rattle.carrying.proofs.Ends.{at_newline, past_other, at_end}
 use Rattle.carrying.proofs.line_end.Statement.{statement}
 use Rattle.carrying.proofs.line_end.Tie as tie
 
 abbrev invariant-loop : tie.invariant-loop
-invariant-loop bytes i₀ i = (i ≤ length bytes) × (lineEnd bytes ≡ i + lineEnd (drop i bytes))
+invariant-loop bytes i₀ i = (i ≤ length bytes) × (line_end bytes ≡ i + line_end (drop i bytes))
 
 abbrev decreases-loop : tie.decreases-loop
 decreases-loop bytes i₀ i = length bytes - i
@@ -25,7 +25,7 @@ returns : tie.Need-returns invariant-loop decreases-loop
 returns c =
     let l = c.before.before.before in
     let b = l.before.args.bytes.now in
-    omega (arith, at-newline b l.loop.i (omega arith) (omega arith))
+    omega (arith, at_newline b l.loop.i (omega arith) (omega arith))
 
 add-i : tie.Need-overflow-add-i invariant-loop decreases-loop
 add-i c = omega arith
@@ -37,12 +37,12 @@ loop-again : tie.Need-loop-preserved invariant-loop decreases-loop
 loop-again c =
     let l = c.before.before.before in
     let b = l.before.args.bytes.now in
-    (omega arith, simp add-one (omega (arith, past-other b l.loop.i (omega arith) (λ e. omega arith))))
+    (omega arith, simp add-one (omega (arith, past_other b l.loop.i (omega arith) (λ e. omega arith))))
 
 returns-2 : tie.Need-returns-2 invariant-loop decreases-loop
 returns-2 c =
     let b = c.before.before.args.bytes.now in
-    omega (arith, at-end, ap lineEnd (drop_of_length-le b {i = c.before.loop.i} (omega arith)))
+    omega (arith, at_end, ap line_end (drop_of_length-le b {i = c.before.loop.i} (omega arith)))
 
 pub line-end-spec : {M : Type 1} → statement M
 line-end-spec =

@@ -5,7 +5,7 @@ use Prim.Native.Nat.{ℕ, suc, ◌+◌, ◌-◌, ◌/◌, ◌%◌, ◌≤◌, �
 use native.Mathlib.Omega.{arith}
 use lib.ListN.{length, take, drop, set, length-set, take-append-drop}
 use lib.Seq.{append_snoc, set_split, drop_at, length-take-le, take-set-le}
-use Rattle.decimal.specs.Inner.{lowDigits}
+use Rattle.decimal.specs.Inner.{low_digits}
 use Rattle.decimal.proofs.fill.Statement.{statement}
 use Rattle.decimal.proofs.fill.Tie as tie
 
@@ -14,12 +14,12 @@ record Left (n start end : ℕ) (out₀ out : List ℕ) (rest k : ℕ) : Type 0 
   least : start ≤ k
   most : k ≤ length out
   front : take start out ≡ take start out₀
-  all : lowDigits (k - start) rest ++ drop k out ≡ lowDigits (end - start) n ++ drop end out₀
+  all : low_digits (k - start) rest ++ drop k out ≡ low_digits (end - start) n ++ drop end out₀
 
 -- one digit more, at the place before
 next : {n start end : ℕ} {out₀ out : List ℕ} {rest k : ℕ} → Left n start end out₀ out rest k → start < k
     → Left n start end out₀ (set out (k - 1) (48 + rest % 10)) (rest / 10) (k - 1)
-unfolding lowDigits
+unfolding low_digits
 next {n} {start} {end} {out₀} {out} {rest} {k} l h =
     let at = k - 1 in
     let b = 48 + rest % 10 in
@@ -33,10 +33,10 @@ next {n} {start} {end} {out₀} {out} {rest} {k} l h =
       most = omega (arith, length-set out at b, l.most);
       front = take-set-le start out at b (omega arith) ∙ l.front;
       all =
-          ap (λ (x : List ℕ). lowDigits (at - start) (rest / 10) ++ x) here
-          ∙ sym (append_snoc (lowDigits (at - start) (rest / 10)) b (drop (suc at) out))
-          ∙ ap (λ (x : ℕ). lowDigits x rest ++ drop (suc at) out) (sym c)
-          ∙ ap (λ (x : ℕ). lowDigits (k - start) rest ++ drop x out) (sym m)
+          ap (λ (x : List ℕ). low_digits (at - start) (rest / 10) ++ x) here
+          ∙ sym (append_snoc (low_digits (at - start) (rest / 10)) b (drop (suc at) out))
+          ∙ ap (λ (x : ℕ). low_digits x rest ++ drop (suc at) out) (sym c)
+          ∙ ap (λ (x : ℕ). low_digits (k - start) rest ++ drop x out) (sym m)
           ∙ l.all;
     }
 
@@ -71,7 +71,7 @@ same_length : tie.Need-same-length invariant-loop decreases-loop
 same_length c = c.before.loop.invariant.size
 
 returns : tie.Need-returns invariant-loop decreases-loop
-unfolding lowDigits
+unfolding low_digits
 returns c =
     let l = c.before.loop in
     let start = c.before.before.args.start in

@@ -4,8 +4,8 @@ use Prim.Native.Nat.{ℕ, zero, suc, ◌+◌, ◌-◌, ◌/◌, ◌^◌, ◌≤�
 use native.Mathlib.Nat.{pow-suc}
 use native.Mathlib.Omega.{arith}
 use lib.ListN.{length, length-append}
-use Rattle.decimal.specs.Decimal.{digitsIn, text}
-use Rattle.decimal.proofs.Laws.{one-digit, more-digits}
+use Rattle.decimal.specs.Decimal.{digits_in, text}
+use Rattle.decimal.proofs.Laws.{one_digit, more_digits}
 use Rattle.decimal.proofs.places.Statement.{statement}
 use Rattle.decimal.proofs.places.Tie as tie
 
@@ -14,19 +14,19 @@ record Counted (n count rest : ℕ) : Type 0 where
   left : ℕ
   most : left + count ≡ 20
   small : rest < 10 ^ suc left
-  same : length (digitsIn (suc left) rest) + count ≡ length (text n) + 1
+  same : length (digits_in (suc left) rest) + count ≡ length (text n) + 1
 
 next : {n count rest : ℕ} → Counted n count rest → 10 ≤ rest → Counted n (count + 1) (rest / 10)
 next {n} {count} {rest} c h = go c.left c.most c.small c.same
   where
-    go : (left : ℕ) → left + count ≡ 20 → rest < 10 ^ suc left → length (digitsIn (suc left) rest) + count ≡ length (text n) + 1
+    go : (left : ℕ) → left + count ≡ 20 → rest < 10 ^ suc left → length (digits_in (suc left) rest) + count ≡ length (text n) + 1
         → Counted n (count + 1) (rest / 10)
     go zero m s e = absurd (omega arith)
     go (suc left) m s e = record {
       left = left;
       most = omega arith;
       small = omega (arith, pow-suc 10 (suc left));
-      same = omega (arith, rw (more-digits (suc left) rest h, length-append) at e);
+      same = omega (arith, rw (more_digits (suc left) rest h, length-append) at e);
     }
 
 abbrev invariant-loop : tie.invariant-loop
@@ -50,7 +50,7 @@ loop-again c = next c.before.loop.invariant (omega arith)
 returns : tie.Need-returns invariant-loop decreases-loop
 returns c =
     let l = c.before.loop in
-    omega (arith, l.invariant.same, ap (length {A = ℕ}) (one-digit l.invariant.left l.rest (omega arith)))
+    omega (arith, l.invariant.same, ap (length {A = ℕ}) (one_digit l.invariant.left l.rest (omega arith)))
 
 pub places-spec : {M : Type 1} → statement M
 places-spec =

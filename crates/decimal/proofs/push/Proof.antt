@@ -7,18 +7,18 @@ use types.Run.{miss}
 use borrow.Author.Rules.{rules}
 use Rattle.decimal.specs.declared.Number.{Number}
 use Rattle.decimal.specs.declared.Number.TheVariants.{Empty, Sign, Natural, Negative, Other}
-use Rattle.decimal.specs.Decimal.{withDigit, withMinus, pushed}
-use Rattle.decimal.proofs.Laws.{pushed-minus, pushed-digit, pushed-below, pushed-above}
+use Rattle.decimal.specs.Decimal.{with_digit, with_minus, pushed}
+use Rattle.decimal.proofs.Laws.{pushed_minus, pushed_digit, pushed_below, pushed_above}
 use Rattle.decimal.proofs.push.Statement.{statement}
 use Rattle.decimal.proofs.push.Tie as tie
 
 -- behind the tests the byte is a digit
 digit : (c : tie.Else3) {n : Number} → c.before.before.before.args.number ≡ n
-    → withDigit n (c.before.before.before.args.byte - 48) ≡ pushed c.before.before.before.args.number c.before.before.before.args.byte
-digit c e = sym (pushed-digit _ _ (omega arith) (omega arith) ∙ ap (λ (x : Number). withDigit x (c.before.before.before.args.byte - 48)) e)
+    → with_digit n (c.before.before.before.args.byte - 48) ≡ pushed c.before.before.before.args.number c.before.before.before.args.byte
+digit c e = sym (pushed_digit _ _ (omega arith) (omega arith) ∙ ap (λ (x : Number). with_digit x (c.before.before.before.args.byte - 48)) e)
 
 -- a minus sign stands in front alone
-inside : (number : Number) → (number ≡ Empty → ⊥) → withMinus number ≡ Other
+inside : (number : Number) → (number ≡ Empty → ⊥) → with_minus number ≡ Other
 inside Empty n = absurd (n refl)
 inside Sign n = refl
 inside (Natural k) n = refl
@@ -29,18 +29,18 @@ enum_told : tie.Need-enum-told
 enum_told c = search rules
 
 returns : tie.Need-returns
-returns c = sym (pushed-minus _ _ (omega arith) ∙ ap withMinus c.enum_told.given.1)
+returns c = sym (pushed_minus _ _ (omega arith) ∙ ap with_minus c.enum_told.given.1)
 
 returns-2 : tie.Need-returns-2
 returns-2 c =
-    sym (pushed-minus _ _ (omega arith)
+    sym (pushed_minus _ _ (omega arith)
     ∙ inside c.before.before.args.number (λ e. let k = c.match.keys2 in miss (1 ∷ 2 ∷ 3 ∷ 4 ∷ []) 0 tt (rw e at k)))
 
 returns-3 : tie.Need-returns-3
-returns-3 c = sym (pushed-below _ _ c.before.if1.false (omega arith))
+returns-3 c = sym (pushed_below _ _ c.before.if1.false (omega arith))
 
 returns-4 : tie.Need-returns-4
-returns-4 c = sym (pushed-above _ _ (omega arith))
+returns-4 c = sym (pushed_above _ _ (omega arith))
 
 cast-digit : tie.Need-overflow-cast-digit
 cast-digit c = search rules

@@ -11,15 +11,15 @@ use borrow.Author.Tests.{lt-ltb}
 use Rattle.basics.proofs.Signed.{negated}
 use Rattle.decimal.specs.declared.Number.{Number}
 use Rattle.decimal.specs.declared.Number.TheVariants.{Empty, Sign, Natural, Negative, Other}
-use Rattle.decimal.specs.Decimal.{clamp, integerOf}
+use Rattle.decimal.specs.Decimal.{clamp, integer_of}
 use types.Run.{miss}
 use borrow.Author.Rules.{rules}
 use Rattle.decimal.proofs.signed.Statement.{statement}
 use Rattle.decimal.proofs.signed.Tie as tie
 
 -- the answer, where it is known what was read
-answer : {number read : Number} {z : ℤ} → number ≡ read → z ≡ clamp (integerOf read) → z ≡ clamp (integerOf number)
-answer e f = f ∙ sym (ap (λ (x : Number). clamp (integerOf x)) e)
+answer : {number read : Number} {z : ℤ} → number ≡ read → z ≡ clamp (integer_of read) → z ≡ clamp (integer_of number)
+answer e f = f ∙ sym (ap (λ (x : Number). clamp (integer_of x)) e)
 
 below : (n : ℕ) → n < 2 ^ 63 → to_z w64 n ≡ clamp (pos n)
 below n h = rw (lt-ltb n (2 ^ 63) h) (ap pos (omega arith))
@@ -36,7 +36,7 @@ minus : (n : ℕ) → n < 2 ^ 63 → to_z w64 (of_z w64 (pos 0 -ℤ to_z w64 n))
 minus n h = to_z-of_z w64 (pos 0 -ℤ to_z w64 n) (negated n h) ∙ rw (lt-ltb n (2 ^ 63) h, +ℤ_idl (neg_ℤ (pos n))) (above n h)
 
 -- what is no number
-none : (number : Number) → ((n : ℕ) → number ≡ Natural n → ⊥) → ((n : ℕ) → number ≡ Negative n → ⊥) → pos 0 ≡ clamp (integerOf number)
+none : (number : Number) → ((n : ℕ) → number ≡ Natural n → ⊥) → ((n : ℕ) → number ≡ Negative n → ⊥) → pos 0 ≡ clamp (integer_of number)
 none Empty f g = refl
 none Sign f g = refl
 none (Natural n) f g = absurd (f n refl)

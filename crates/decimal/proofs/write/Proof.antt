@@ -4,7 +4,7 @@ use Prim.Native.Nat.{◌-◌}
 use native.Mathlib.Omega.{arith}
 use lib.ListN.{length}
 use Rattle.decimal.specs.Decimal.{text}
-use Rattle.decimal.proofs.Laws.{are-low, length_most, written}
+use Rattle.decimal.proofs.Laws.{are_low, length_most, written}
 use borrow.Author.Rules.{rules}
 use Rattle.decimal.proofs.write.Statement.{statement}
 use Rattle.decimal.proofs.write.Tie as tie
@@ -20,7 +20,7 @@ returns c =
     let n = c.before.before.before.args.n in
     let count = c.before.before.places in
     let k : count.result - 0 ≡ length (text n) = omega (arith, count.ensures) in
-    written (text n) _ _ count.result (c.fill.ensures ∙ rw (k, are-low 20 n)) count.ensures
+    written (text n) _ _ count.result (c.fill.ensures ∙ rw (k, are_low 20 n)) count.ensures
 
 pub write_spec : {M : Type 1} → statement M
 write_spec = tie.close (tie.spec places-requires fill-requires returns)

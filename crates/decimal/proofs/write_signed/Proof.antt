@@ -10,8 +10,8 @@ use lib.Signed.{nat_abs-le}
 use mir.Syntax.{w64}
 use mir.Val.{to_z, of_z}
 use mir.ValLaws.{to_z-of_z}
-use Rattle.decimal.specs.Decimal.{text, signedText}
-use Rattle.decimal.proofs.Laws.{are-low, length-fewest, negative-text, plain-text, written}
+use Rattle.decimal.specs.Decimal.{text, signed_text}
+use Rattle.decimal.proofs.Laws.{are_low, length_fewest, negative_text, plain_text, written}
 use borrow.Author.Rules.{rules}
 use Rattle.decimal.proofs.write_signed.Statement.{statement}
 use Rattle.decimal.proofs.write_signed.Tie as tie
@@ -27,7 +27,7 @@ few : (c : tie.After-places) → c.places.result ≤ 19
 few c =
     let m = c.before.before in
     let small = nat_abs-le m.before.args.n m.before.ranges.n.sfits in
-    omega (arith, c.places.ensures, length-fewest 20 m.magnitude.result 19 (omega arith) (omega (arith, distance m)))
+    omega (arith, c.places.ensures, length_fewest 20 m.magnitude.result 19 (omega arith) (omega (arith, distance m)))
 
 -- the sign, and the digits behind it
 signs : (s entry : List ℕ) (count : ℕ) → 0 < length entry
@@ -57,11 +57,11 @@ returns c =
     let d = m.magnitude.result in
     let count = c.before.before.places in
     let entry = m.before.args.out.now in
-    let t : 45 ∷ text d ≡ signedText n = ap (λ (x : ℕ). 45 ∷ text x) (distance m)
-    ∙ sym (negative-text n (rw (same m) at c.before.before.before.if1.true)) in
+    let t : 45 ∷ text d ≡ signed_text n = ap (λ (x : ℕ). 45 ∷ text x) (distance m)
+    ∙ sym (negative_text n (rw (same m) at c.before.before.before.if1.true)) in
     let k : 1 + count.result - 1 ≡ length (text d) = omega (arith, count.ensures) in
-    written (signedText n) entry _ (1 + count.result)
-    (c.fill.ensures ∙ rw (k, are-low 20 d) (signs (text d) entry count.result (omega (arith, simp length-set at c.before.fill-arg.given)))
+    written (signed_text n) entry _ (1 + count.result)
+    (c.fill.ensures ∙ rw (k, are_low 20 d) (signs (text d) entry count.result (omega (arith, simp length-set at c.before.fill-arg.given)))
     ∙ ap (λ (x : List ℕ). x ++ drop (1 + count.result) entry) t)
     (omega (arith, count.ensures, ap (length {A = ℕ}) t))
 
@@ -72,9 +72,9 @@ returns-2 : tie.Need-returns-2
 returns-2 c =
     let m = c.before.before.before in
     let n = m.before.args.n in
-    let t : text m.magnitude.result ≡ signedText n = ap text (distance m) ∙ sym (plain-text n (rw (same m) at c.before.before.if1.false)) in
+    let t : text m.magnitude.result ≡ signed_text n = ap text (distance m) ∙ sym (plain_text n (rw (same m) at c.before.before.if1.false)) in
     let w = c.write in
-    written (signedText n) _ _ w.result
+    written (signed_text n) _ _ w.result
     (w.ensures.0 ∙ ap (λ (x : List ℕ). x ++ drop w.result m.before.args.out.now) t)
     (w.ensures.1.0 ∙ ap (length {A = ℕ}) t)
 

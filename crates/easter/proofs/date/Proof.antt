@@ -7,7 +7,7 @@ use borrow.Author.Rules.{rules}
 use Prim.Native.Nat.{◌+◌, ◌*◌, ◌%◌}
 use native.Mathlib.Omega.{arith}
 use borrow.Author.Tests.{eq-eqb, ne_eqb, lt-ltb, le-ltb}
-use Rattle.computus.specs.Rule.{exceptionI, exceptionII, dated}
+use Rattle.computus.specs.Rule.{exception_i, exception_ii, dated}
 use Rattle.easter.proofs.date.Statement.{statement}
 use Rattle.easter.proofs.date.Tie as tie
 
@@ -38,7 +38,7 @@ ordinary-date-requires : tie.Need-ordinary-date-requires
 ordinary-date-requires c κs = search rules
 
 -- by each way past the tests, neither exception applies
-not-one : (c : tie.Joined1) → exceptionI c.before.args.d c.before.args.e ≡ false
+not-one : (c : tie.Joined1) → exception_i c.before.args.d c.before.args.e ≡ false
 not-one c =
     let d = c.before.args.d in
     ⊎_elim (λ w. rw (ne_eqb d 29 (λ e. w.1.left (omega arith))))
@@ -47,7 +47,7 @@ not-one c =
     (λ w. rw (ne_eqb c.before.args.e 6 (λ e. w.left (omega arith))) (and-false (eqb d 29))))
     c.if1.branch
 
-not-two : (c : tie.Joined1) → exceptionII c.before.args.m c.before.args.d c.before.args.e ≡ false
+not-two : (c : tie.Joined1) → exception_ii c.before.args.m c.before.args.d c.before.args.e ≡ false
 not-two c =
     let s = c.before.args in
     ⊎_elim

@@ -3,9 +3,9 @@ use mathlib.Core.Path.{◌≡◌, sym, ◌∙◌}
 use borrow.Author.Rules.{rules}
 use mir.Syntax.{w64}
 use mir.ValLaws.{to_z-of_z}
-use Rattle.computus.specs.Rule.{julianEaster}
-use Rattle.easter.specs.Years.{yearFrom}
-use Rattle.easter.proofs.Years.{asked-for}
+use Rattle.computus.specs.Rule.{julian_easter}
+use Rattle.easter.specs.Years.{year_from}
+use Rattle.easter.proofs.Years.{asked_for}
 use Rattle.easter.proofs.julian.Statement.{statement}
 use Rattle.easter.proofs.julian.Tie as tie
 
@@ -21,19 +21,19 @@ by-constants-requires c κs = search rules
 enum_told : tie.Need-enum-told
 enum_told c = search rules
 
-is-year : (a : tie.After-year-from) → a.year-from.result ≡ yearFrom 1 a.before.args.year
+is-year : (a : tie.After-year-from) → a.year-from.result ≡ year_from 1 a.before.args.year
 is-year a = rw (to_z-of_z w64 a.before.args.year a.before.ranges.year) at a.year-from.ensures
 
 returns : tie.Need-returns
 returns c =
     let y = c.before.before in
     let a = y.before.before in
-    c.by-constants.ensures ∙ sym (asked-for 1 julianEaster a.before.args.year _ (sym y.y.given.1 ∙ is-year a))
+    c.by-constants.ensures ∙ sym (asked_for 1 julian_easter a.before.args.year _ (sym y.y.given.1 ∙ is-year a))
 
 returns-2 : tie.Need-returns-2
 returns-2 c =
     let a = c.before.before in
-    sym (asked-for 1 julianEaster a.before.args.year _ (sym c.enum_told.given.1 ∙ is-year a))
+    sym (asked_for 1 julian_easter a.before.args.year _ (sym c.enum_told.given.1 ∙ is-year a))
 
 pub julian-spec : {M : Type 1} → statement M
 julian-spec =

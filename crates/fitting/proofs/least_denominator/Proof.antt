@@ -6,7 +6,7 @@ use mathlib.Core.List.{List}
 use Prim.Native.Nat.{ℕ, ◌≤◌, ◌<◌, ◌-◌, ◌+◌, ◌*◌, min, max}
 use native.Mathlib.Omega.{arith}
 use lib.ListN.{length, get_or}
-use Rattle.fitting.proofs.Search.{Tried, Tested, Small, none_tried, begun, hit, next, fails-above, fails-below, small, slope-small, miss}
+use Rattle.fitting.proofs.Search.{Tried, Tested, Small, none_tried, begun, hit, next, fails_above, fails_below, small, slope_small, miss}
 use Rattle.fitting.proofs.least_denominator.Statement.{statement}
 use Rattle.fitting.proofs.least_denominator.Tie as tie
 
@@ -81,7 +81,7 @@ shared-slice-read-a : tie.Need-shared-slice-read-a invariant-loop decreases-loop
 shared-slice-read-a c = omega arith
 
 add_a : tie.Need-overflow-add-a invariant-loop decreases-loop invariant-denominators decreases-denominators
-add_a c = omega (arith, slope-small _ c.before.before.before.before.requires c.before.before.denominators.invariant (untried c.before))
+add_a c = omega (arith, slope_small _ c.before.before.before.before.requires c.before.before.denominators.invariant (untried c.before))
 
 add-tried : tie.Need-overflow-add-tried invariant-loop decreases-loop invariant-denominators decreases-denominators
 add-tried c = omega arith
@@ -123,7 +123,7 @@ denominators-less : tie.Need-denominators-smaller invariant-loop decreases-loop 
 denominators-less c = omega arith
 
 denominators-again : tie.Need-denominators-preserved invariant-loop decreases-loop invariant-denominators decreases-denominators
-denominators-again c = fails-above _ c.before.before.before.loop.invariant (more c.before) (omega arith)
+denominators-again c = fails_above _ c.before.before.before.loop.invariant (more c.before) (omega arith)
 
 add-if4 : tie.Need-overflow-add-if4 invariant-loop decreases-loop invariant-denominators decreases-denominators
 add-if4 c = omega (arith, sizes c.before)
@@ -133,7 +133,7 @@ denominators-less-2 c = omega arith
 
 denominators-again-2 :
     tie.Need-denominators-preserved-2 invariant-loop decreases-loop invariant-denominators decreases-denominators
-denominators-again-2 c = fails-below _ c.before.before.before.before.loop.invariant (more c.before.before) (omega arith)
+denominators-again-2 c = fails_below _ c.before.before.before.before.loop.invariant (more c.before.before) (omega arith)
 
 raised-requires : tie.Need-raised-requires invariant-loop decreases-loop invariant-denominators decreases-denominators
 raised-requires c κs = omega (arith, sizes c.before.before)

@@ -2,7 +2,7 @@
 use native.Mathlib.Omega.{arith}
 use Rattle.hebrew.specs.Hebrew.{leap}
 use Rattle.months.proofs.Years.{flag}
-use Rattle.months.proofs.HebrewGates.{leap-number}
+use Rattle.months.proofs.HebrewGates.{leap_number}
 use borrow.Author.Rules.{rules}
 use Rattle.gates.proofs.leap_of.Statement.{statement}
 use Rattle.gates.proofs.leap_of.Tie as tie
@@ -25,7 +25,7 @@ sub-result-2 c = search rules
 returns : tie.Need-returns
 returns c =
     let y = c.before.before.args.y in
-    let e = leap-number y in
+    let e = leap_number y in
     (omega (arith, e), omega (arith, e, flag (leap y)))
 
 pub leap-of-spec : {M : Type 1} → statement M

@@ -1,6 +1,6 @@
 -- `gates::year_at` meets its contract.
 use native.Mathlib.Omega.{arith}
-use Rattle.months.proofs.HebrewGates.{moon-is, year-found}
+use Rattle.months.proofs.HebrewGates.{moon_is, year_found}
 use borrow.Author.Rules.{rules}
 use Rattle.gates.proofs.year_at.Statement.{statement}
 use Rattle.gates.proofs.year_at.Tie as tie
@@ -92,11 +92,11 @@ sub-t12 c =
       c.before.gate-days.ensures.0,
       c.next-days.ensures.0,
       c.before.before.months-to.ensures,
-      moon-is s.args.y h,
+      moon_is s.args.y h,
       l3.leap-of3.ensures.0,
       l3.before.leap-of2.ensures.0,
       l3.before.before.leap-of.ensures.0,
-    ) (year-found s.args.y h).0
+    ) (year_found s.args.y h).0
 
 returns : tie.Need-returns
 returns c =
@@ -107,11 +107,11 @@ returns c =
         c.before.gate-days.ensures.0,
         c.next-days.ensures.0,
         c.before.before.months-to.ensures,
-        moon-is s.args.y h,
+        moon_is s.args.y h,
         l3.leap-of3.ensures.0,
         l3.before.leap-of2.ensures.0,
         l3.before.before.leap-of.ensures.0,
-      ) (year-found s.args.y h).1,
+      ) (year_found s.args.y h).1,
       l3.before.leap-of2.ensures.1,
       omega (arith, c.before.before.months-to.ensures, c.before.gate-days.ensures.1, s.requires.1),
     )

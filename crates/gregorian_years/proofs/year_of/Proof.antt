@@ -1,7 +1,7 @@
 -- `gregorian_years::year_of` meets its contract.
 use Prim.Native.Nat.{◌+◌, ◌-◌, ◌*◌, ◌/◌}
 use native.Mathlib.Omega.{arith}
-use Rattle.months.proofs.Gregorian.{year-of}
+use Rattle.months.proofs.Gregorian.{year_of_lem}
 use borrow.Author.Rules.{rules}
 use Rattle.gregorian_years.proofs.year_of.Statement.{statement}
 use Rattle.gregorian_years.proofs.year_of.Tie as tie
@@ -34,7 +34,7 @@ returns : tie.Need-returns
 returns c =
     let n = c.args.day + c.args.after in
     let k = (4 * n + 3) / 146097 in
-    year-of n k (n + k - k / 4) _ _ (omega arith) (omega arith) (omega arith) (omega arith) (omega arith) (omega arith)
+    year_of_lem n k (n + k - k / 4) _ _ (omega arith) (omega arith) (omega arith) (omega arith) (omega arith) (omega arith)
 
 pub year-of-spec : {M : Type 1} → statement M
 year-of-spec =

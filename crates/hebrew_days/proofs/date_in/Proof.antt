@@ -3,14 +3,14 @@ use mathlib.Core.Path.{◌≡◌, ap, ◌∙◌}
 use Prim.Native.Nat.{◌+◌, ◌-◌, ◌/◌, ◌≤◌, ◌<◌}
 use native.Mathlib.Omega.{arith}
 use lib.IntN.{pos}
-use Rattle.months.proofs.Hebrew.{rest-small, found-room, hebrew-date}
+use Rattle.months.proofs.Hebrew.{rest_small, found_room, hebrew_date}
 use borrow.Author.Rules.{rules}
 use Rattle.hebrew_days.proofs.date_in.Statement.{statement}
 use Rattle.hebrew_days.proofs.date_in.Tie as tie
 
 -- the days of the year before the day
 rest : (s : tie.Start) → (s.args.year.start ≤ s.args.day) × (s.args.day - s.args.year.start < 385)
-rest s = rest-small s.args.day s.args.y s.args.year.start s.args.year.leap s.args.year.kind s.requires.0 s.requires.1
+rest s = rest_small s.args.day s.args.y s.args.year.start s.args.year.leap s.args.year.kind s.requires.0 s.requires.1
 
 sub-rest : tie.Need-overflow-sub-rest
 sub-rest c = search rules
@@ -65,7 +65,7 @@ sub-place-in c =
     let b = c.before.before.before.before in
     let s = b.before.before.before.before in
     rw (c.before.before.pick2.ensures.0, b.month-before2.ensures, b.before.month-before.ensures)
-    (found-room s.args.year.kind (s.args.day - s.args.year.start) s.requires.1.below (rest s).1)
+    (found_room s.args.year.kind (s.args.day - s.args.year.start) s.requires.1.below (rest s).1)
 
 add-place-in-3 : tie.Need-overflow-add-place-in-3
 add-place-in-3 c =
@@ -83,7 +83,7 @@ returns c =
     let s = b.before.before.before.before in
     let p = c.IsPlace-in.ensures in
     let e : 0 + s.args.y ≡ s.args.y = omega arith in
-    hebrew-date s.args.day s.args.y s.args.year.start s.args.year.leap s.args.year.kind _ _ _ s.requires.0 s.requires.1
+    hebrew_date s.args.day s.args.y s.args.year.start s.args.year.leap s.args.year.kind _ _ _ s.requires.0 s.requires.1
     (p.0 ∙ ap pos e)
     (rw (l.pick3.ensures.0, l.before.before.before.pick.ensures.0, b.month-before2.ensures) at p.1)
     (rw (l.before.before.pick2.ensures.0, b.month-before2.ensures, b.before.month-before.ensures) at p.2)

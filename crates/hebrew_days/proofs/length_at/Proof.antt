@@ -4,13 +4,13 @@ use native.Mathlib.Omega.{arith}
 use Rattle.counting.specs.Answers.{years}
 use Rattle.calendar_rules.specs.Calendars.{hebrew}
 use Rattle.months.proofs.Dates.{no_length}
-use Rattle.months.proofs.Hebrew.{hebrew-positions, hebrew-length}
+use Rattle.months.proofs.Hebrew.{hebrew_positions, hebrew_length}
 use borrow.Author.Rules.{rules}
 use Rattle.hebrew_days.proofs.length_at.Statement.{statement}
 use Rattle.hebrew_days.proofs.length_at.Tie as tie
 
 returns : tie.Need-returns
-returns c = let s = c.before in no_length (years hebrew) s.args.i s.args.p (omega (arith, hebrew-positions s.args.i))
+returns c = let s = c.before in no_length (years hebrew) s.args.i s.args.p (omega (arith, hebrew_positions s.args.i))
 
 year-after-requires : tie.Need-year-after-requires
 year-after-requires c κs = search rules
@@ -22,7 +22,7 @@ returns-2 : tie.Need-returns-2
 returns-2 c =
     let y = c.before in
     let s = y.before.before in
-    c.month-days.ensures ∙ hebrew-length s.args.i s.args.p _ _ _ y.year-after.ensures.0
+    c.month-days.ensures ∙ hebrew_length s.args.i s.args.p _ _ _ y.year-after.ensures.0
 
 pub length-at-spec : {M : Type 1} → statement M
 length-at-spec =

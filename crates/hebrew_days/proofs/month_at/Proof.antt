@@ -7,9 +7,9 @@ use native.Mathlib.Omega.{arith}
 use Rattle.counting.specs.Answers.{years}
 use Rattle.calendar_rules.specs.Calendars.{hebrew}
 use Rattle.hebrew.specs.Hebrew.{kinds}
-use Rattle.months.specs.Hebrew.{monthBefore, monthOf}
-use Rattle.months.proofs.Dates.{no-month, none-there}
-use Rattle.months.proofs.Hebrew.{hebrew-positions, hebrew-length, no-month-there, word-length, hebrew-month}
+use Rattle.months.specs.Hebrew.{month_before, month_of}
+use Rattle.months.proofs.Dates.{no_month_lem, none_there_lem}
+use Rattle.months.proofs.Hebrew.{hebrew_positions, hebrew_length, no_month_there, word_length, hebrew_month}
 use borrow.Author.Rules.{rules}
 use Rattle.hebrew_days.proofs.month_at.Statement.{statement}
 use Rattle.hebrew_days.proofs.month_at.Tie as tie
@@ -17,15 +17,15 @@ use Rattle.hebrew_days.proofs.month_at.Tie as tie
 -- the length by the word
 word : (b : tie.After-month-before2) → let y = b.before.before.before.before.before.before in let s = y.before.before in
     let k = y.year-after.result.kind in
-    let q = monthOf y.year-after.result.leap s.args.p in
-    (monthBefore k q ≤ monthBefore k (q + 1)) × (monthBefore k (q + 1) - monthBefore k q ≡ get_or (get_or kinds k []) s.args.p 0)
+    let q = month_of y.year-after.result.leap s.args.p in
+    (month_before k q ≤ month_before k (q + 1)) × (month_before k (q + 1) - month_before k q ≡ get_or (get_or kinds k []) s.args.p 0)
 word b =
     let e = b.before.before.before.before in
     let y = e.before.before in
-    word-length (omega arith) y.year-after.ensures.0 y.before.before.args.p (omega arith) e.if2.false
+    word_length (omega arith) y.year-after.ensures.0 y.before.before.args.p (omega arith) e.if2.false
 
 returns : tie.Need-returns
-returns c = let s = c.before in no-month (years hebrew) 347998 s.args.i s.args.p 0 (omega (arith, hebrew-positions s.args.i))
+returns c = let s = c.before in no_month_lem (years hebrew) 347998 s.args.i s.args.p 0 (omega (arith, hebrew_positions s.args.i))
 
 year-after-requires : tie.Need-year-after-requires
 year-after-requires c κs = search rules
@@ -41,8 +41,8 @@ returns-2 c =
     let y = c.before.before in
     let s = y.before.before in
     let x = y.year-after.ensures.0 in
-    none-there (years hebrew) 347998 s.args.i s.args.p 0
-    (sym (no-month-there (omega arith) x s.args.p (omega arith) c.if2.true) ∙ hebrew-length s.args.i s.args.p _ _ _ x)
+    none_there_lem (years hebrew) 347998 s.args.i s.args.p 0
+    (sym (no_month_there (omega arith) x s.args.p (omega arith) c.if2.true) ∙ hebrew_length s.args.i s.args.p _ _ _ x)
 
 month-of-requires : tie.Need-month-of-requires
 month-of-requires c κs = search rules
@@ -77,7 +77,7 @@ returns-3 c =
     let y = m.before.before.before in
     let s = y.before.before in
     let e = m.month-of.ensures.0 in
-    hebrew-month s.args.i s.args.p _ _ _ _ _ (omega arith) y.year-after.ensures.0
+    hebrew_month s.args.i s.args.p _ _ _ _ _ (omega arith) y.year-after.ensures.0
     (ap (λ (k : ℕ). y.year-after.result.start + k) (rw e at b.before.month-before.ensures))
     ((λ j. (rw e at b.month-before2.ensures) j - (rw e at b.before.month-before.ensures) j) ∙ (word b).1)
 

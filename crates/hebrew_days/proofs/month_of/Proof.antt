@@ -1,6 +1,6 @@
 -- `hebrew_days::month_of` meets its contract.
 use native.Mathlib.Omega.{arith}
-use Rattle.months.proofs.Hebrew.{month-of-is}
+use Rattle.months.proofs.Hebrew.{month_of_is}
 use borrow.Author.Rules.{rules}
 use Rattle.hebrew_days.proofs.month_of.Statement.{statement}
 use Rattle.hebrew_days.proofs.month_of.Tie as tie
@@ -15,12 +15,12 @@ pick-requires : tie.Need-pick-requires
 pick-requires c κs = search rules
 
 sub-result : tie.Need-overflow-sub-result
-sub-result c = let s = c.before in omega (arith, c.pick.ensures.0, month-of-is s.args.l s.args.p s.requires.0 s.requires.1)
+sub-result c = let s = c.before in omega (arith, c.pick.ensures.0, month_of_is s.args.l s.args.p s.requires.0 s.requires.1)
 
 returns : tie.Need-returns
 returns c =
     let s = c.before in
-    let x = month-of-is s.args.l s.args.p s.requires.0 s.requires.1 in
+    let x = month_of_is s.args.l s.args.p s.requires.0 s.requires.1 in
     (omega (arith, c.pick.ensures.0, x), omega (arith, c.pick.ensures.0, x))
 
 pub month-of-spec : {M : Type 1} → statement M

@@ -3,7 +3,7 @@ use mathlib.Core.Path.{◌≡◌, subst}
 use Prim.Native.Nat.{ℕ, ◌+◌, ◌-◌, ◌*◌, ◌/◌}
 use native.Mathlib.Omega.{arith}
 use Rattle.hebrew.proofs.Calendar.{YearOf}
-use Rattle.hebrew.proofs.Estimate.{estimate, estimate-right, estimate-high}
+use Rattle.hebrew.proofs.Estimate.{estimate, estimate_right, estimate_high}
 use Rattle.months.specs.Hebrew.{HebrewYear}
 use borrow.Author.Rules.{rules}
 use Rattle.hebrew_days.proofs.year_on.Statement.{statement}
@@ -26,7 +26,7 @@ unfolding estimate
 sub-year-after c =
     let y = c.before.before in
     let day = y.before.args.day in
-    omega (arith, (estimate-high day (omega arith) (omega (arith, y.year-after.ensures.0.begins))).0)
+    omega (arith, (estimate_high day (omega arith) (omega (arith, y.year-after.ensures.0.begins))).0)
 
 cast-year-after-2 : tie.Need-overflow-cast-year-after-2
 cast-year-after-2 c = search rules
@@ -39,7 +39,7 @@ unfolding estimate
 returns c =
     let y = c.before.before.before in
     let day = y.before.args.day in
-    let g = estimate-high day (omega arith) (omega (arith, y.year-after.ensures.0.begins)) in
+    let g = estimate_high day (omega arith) (omega (arith, y.year-after.ensures.0.begins)) in
     let i : ℕ = (day - 347970) * 98496 / 35975351 in
     let r = c.year-after2.result in
     let e : estimate day - 1 ≡ i = omega arith in
@@ -58,7 +58,7 @@ unfolding estimate
 returns-2 c =
     let y = c.before.before in
     let day = y.before.args.day in (
-      estimate-right day (omega arith) (omega (arith, y.year-after.ensures.0.begins)),
+      estimate_right day (omega arith) (omega (arith, y.year-after.ensures.0.begins)),
       y.year-after.ensures.0,
       y.year-after.ensures.1,
       omega arith,

@@ -3,9 +3,9 @@ use Prim.Native.Nat.{◌+◌, ◌-◌, ◌*◌, ◌/◌, ◌%◌}
 use native.Mathlib.Omega.{arith}
 use lib.IntN.{pos}
 use Rattle.counting.specs.Answers.{years}
-use Rattle.months.specs.Parts.{islamicFrom}
-use Rattle.months.proofs.Dates.{early-place, later-place}
-use Rattle.months.proofs.Islamic.{held, islamic-date}
+use Rattle.months.specs.Parts.{islamic_from}
+use Rattle.months.proofs.Dates.{early_place, later_place}
+use Rattle.months.proofs.Islamic.{held, islamic_date}
 use borrow.Author.Rules.{rules}
 use Rattle.islamic.proofs.date_on.Statement.{statement}
 use Rattle.islamic.proofs.date_on.Tie as tie
@@ -17,7 +17,7 @@ returns : tie.Need-returns
 returns c =
     let s = c.before.before in
     let f = s.args.first in
-    early-place (years (islamicFrom f)) (pos 1) f s.args.day _ _ _ (omega arith) c.nowhere.ensures
+    early_place (years (islamic_from f)) (pos 1) f s.args.day _ _ _ (omega arith) c.nowhere.ensures
 
 cast_t : tie.Need-overflow-cast-t
 cast_t c = search rules
@@ -63,8 +63,8 @@ returns-2 c =
     let f = s.args.first in
     let q = c.before.pick.ensures.0 in
     let p = c.IsPlace-in.ensures in
-    later-place (years (islamicFrom f)) (pos 1) f s.args.day _ _ _ (omega arith)
-    (islamic-date f (s.args.day - f) _ _ _ p.0 (rw q at p.1) (rw q at p.2))
+    later_place (years (islamic_from f)) (pos 1) f s.args.day _ _ _ (omega arith)
+    (islamic_date f (s.args.day - f) _ _ _ p.0 (rw q at p.1) (rw q at p.2))
 
 pub date-on-spec : {M : Type 1} → statement M
 date-on-spec =

@@ -1,9 +1,9 @@
 -- `islamic::month_at` meets its contract.
 use native.Mathlib.Omega.{arith}
 use Rattle.counting.specs.Answers.{years}
-use Rattle.months.specs.Parts.{islamicFrom}
-use Rattle.months.proofs.Dates.{no-month}
-use Rattle.months.proofs.Islamic.{islamic-positions, islamic-month}
+use Rattle.months.specs.Parts.{islamic_from}
+use Rattle.months.proofs.Dates.{no_month_lem}
+use Rattle.months.proofs.Islamic.{islamic_positions, islamic_month}
 use borrow.Author.Rules.{rules}
 use Rattle.islamic.proofs.month_at.Statement.{statement}
 use Rattle.islamic.proofs.month_at.Tie as tie
@@ -12,7 +12,7 @@ returns : tie.Need-returns
 returns c =
     let s = c.before in
     let f = s.args.first in
-    no-month (years (islamicFrom f)) f s.args.i s.args.p 0 (omega (arith, islamic-positions f s.args.i))
+    no_month_lem (years (islamic_from f)) f s.args.i s.args.p 0 (omega (arith, islamic_positions f s.args.i))
 
 mul-t7 : tie.Need-overflow-mul-t7
 mul-t7 c = search rules
@@ -38,7 +38,7 @@ length-at-requires c κs = search rules
 returns-2 : tie.Need-returns-2
 returns-2 c =
     let s = c.before.before in
-    islamic-month s.args.first s.args.i s.args.p _ (omega arith) (c.length_at.ensures s.args.first)
+    islamic_month s.args.first s.args.i s.args.p _ (omega arith) (c.length_at.ensures s.args.first)
 
 pub month-at-spec : {M : Type 1} → statement M
 month-at-spec =

@@ -4,13 +4,13 @@ use Prim.Native.Nat.{◌-◌}
 use native.Mathlib.Omega.{arith}
 use lib.ListN.{length}
 use borrow.Author.Rules.{rules}
-use Rattle.streaming.proofs.Work.{none_from, then-from}
-use Rattle.carrying.specs.Kept.{most, keptOf}
-use Rattle.carrying.proofs.Kept.{kept-few}
+use Rattle.streaming.proofs.Work.{none_from, then_from}
+use Rattle.carrying.specs.Kept.{most, kept_of}
+use Rattle.carrying.proofs.Kept.{kept_few}
 use Rattle.replying.specs.Sheet.{judging}
 use Rattle.replying.proofs.Claims.{reads}
 use Rattle.judging.specs.Inner.{TakesFrom}
-use Rattle.judging.proofs.Piece.{same-buffer, room, judged}
+use Rattle.judging.proofs.Piece.{same_buffer, room, judged}
 use Rattle.judging.proofs.judge_all.Statement.{statement}
 use Rattle.judging.proofs.judge_all.Tie as tie
 
@@ -24,7 +24,7 @@ loop-holds : tie.Need-loop-init invariant-loop decreases-loop
 loop-holds c =
     let u = c.before.before.args.start in
     let e : length u.bytes ≡ 17 = search rules in
-    none_from judging most tt (keptOf u) _ 0 (omega arith) (kept-few u e) (omega arith)
+    none_from judging most tt (kept_of u) _ 0 (omega arith) (kept_few u e) (omega arith)
 
 take-frames-requires : tie.Need-take-frames-requires invariant-loop decreases-loop
 take-frames-requires c κs = let l = c.before.before.loop in (l.invariant.within, room (omega arith) l.invariant)
@@ -35,7 +35,7 @@ frames : (c : tie.After-take-frames invariant-loop decreases-loop)
     let a = l.before.before.before.args in
     let r = c.take-frames.result in
     TakesFrom a.start a.input.now 0 r.next a.out.now 0 l.loop.state c.take-frames.new.1.1.1.0 r.written
-frames c = then-from judging most (omega arith) reads (omega arith) c.before.before.before.loop.invariant c.take-frames.ensures
+frames c = then_from judging most (omega arith) reads (omega arith) c.before.before.before.loop.invariant c.take-frames.ensures
 
 take-line-requires : tie.Need-take-line-requires invariant-loop decreases-loop
 take-line-requires c κs = let f = frames c.before.before.before.before in (omega arith, room (omega arith) f)
@@ -49,7 +49,7 @@ loop-less c =
 loop-again : tie.Need-loop-preserved invariant-loop decreases-loop
 loop-again c =
     let t = c.before.before.before in
-    then-from judging most (omega arith) reads (omega arith) (frames t.before.before.before.before.before) t.take-line.ensures.0
+    then_from judging most (omega arith) reads (omega arith) (frames t.before.before.before.before.before) t.take-line.ensures.0
 
 loop-less-2 : tie.Need-loop-smaller-2 invariant-loop decreases-loop
 loop-less-2 c = omega arith
@@ -58,7 +58,7 @@ loop-again-2 : tie.Need-loop-preserved-2 invariant-loop decreases-loop
 loop-again-2 c = frames c.before.before.before
 
 same_length : tie.Need-same-length invariant-loop decreases-loop
-same_length c = same-buffer (omega arith) c.before.loop.invariant
+same_length c = same_buffer (omega arith) c.before.loop.invariant
 
 returns : tie.Need-returns invariant-loop decreases-loop
 returns c = let l = c.before.loop in judged l.invariant (omega (arith, l.invariant.within)) (omega arith) (omega arith)

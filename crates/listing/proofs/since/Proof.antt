@@ -7,33 +7,33 @@ use lib.IntN.{pos, negsuc, ◌-ℤ◌}
 use mir.Syntax.{w64}
 use mir.Val.{SFits, to_z, of_z}
 use mir.ValLaws.{to_z-of_z}
-use Rattle.counting.specs.Years.{yearsFrom}
-use Rattle.counting.proofs.Signs.{placed, years-small}
-use Rattle.asking.specs.Steps.{yearInside, yearsSince}
+use Rattle.counting.specs.Years.{years_from}
+use Rattle.counting.proofs.Signs.{placed, years_small}
+use Rattle.asking.specs.Steps.{year_inside, years_since}
 use Rattle.asking.proofs.Since.{inside}
 use borrow.Author.Rules.{rules}
 use Rattle.listing.proofs.since.Statement.{statement}
 use Rattle.listing.proofs.since.Tie as tie
 
-year-is : (s : tie.Start) → to_z w64 (of_z w64 s.args.year) ≡ s.args.year
-year-is s = to_z-of_z w64 s.args.year s.ranges.year
+year_is : (s : tie.Start) → to_z w64 (of_z w64 s.args.year) ≡ s.args.year
+year_is s = to_z-of_z w64 s.args.year s.ranges.year
 
 -- the year is one that a calendar may have
-test : (t : tie.Then1) → yearInside t.before.before.args.year ≡ true
-test t = sym (rw (year-is t.before.before) at t.before.year-inside.ensures) ∙ t.if1.true
+test : (t : tie.Then1) → year_inside t.before.before.args.year ≡ true
+test t = sym (rw (year_is t.before.before) at t.before.year-inside.ensures) ∙ t.if1.true
 
 -- the years from -4712
 abbrev place : tie.Then1 → ℕ
-place t = yearsFrom (negsuc 4711) t.before.before.args.year
+place t = years_from (negsuc 4711) t.before.before.args.year
 
 difference : (t : tie.Then1) → to_z w64 (of_z w64 t.before.before.args.year) -ℤ negsuc 4711 ≡ pos (place t)
-difference t = let s = t.before.before in rw (year-is s) (placed (negsuc 4711) s.args.year (inside s.args.year (test t)).not-early).0
+difference t = let s = t.before.before in rw (year_is s) (placed (negsuc 4711) s.args.year (inside s.args.year (test t)).not_early).0
 
 few : (t : tie.Then1) → place t ≤ 24712
 few t =
     let y = t.before.before.args.year in
     let o = inside y (test t) in
-    years-small (negsuc 4711) y 4711 (omega arith) o.not-early o.not_late
+    years_small (negsuc 4711) y 4711 (omega arith) o.not_early o.not_late
 
 small : (t : tie.Then1) → SFits w64 (pos (place t))
 small t = record { sfits = omega (arith, few t) }
@@ -48,14 +48,14 @@ cast-result : tie.Need-overflow-cast-result
 cast-result c = rw (difference c, to_z-of_z w64 (pos (place c)) (small c)) (tt, record { fits = omega (arith, few c) })
 
 returns : tie.Need-returns
-unfolding yearsSince
+unfolding years_since
 returns c = rw (difference c, to_z-of_z w64 (pos (place c)) (small c), test c) refl
 
 returns-2 : tie.Need-returns-2
-unfolding yearsSince
+unfolding years_since
 returns-2 c =
     let s = c.before.before in
-    let f : yearInside s.args.year ≡ false = sym (rw (year-is s) at c.before.year-inside.ensures) ∙ c.if1.false in
+    let f : year_inside s.args.year ≡ false = sym (rw (year_is s) at c.before.year-inside.ensures) ∙ c.if1.false in
     rw f refl
 
 pub since-spec : {M : Type 1} → statement M

@@ -3,16 +3,16 @@ use Prim.Native.Nat.{◌+◌}
 use native.Mathlib.Omega.{arith}
 use Rattle.counting.specs.Answers.{years}
 use Rattle.calendar_rules.specs.Calendars.{gregorian}
-use Rattle.months.specs.Leap.{gregorianLong}
+use Rattle.months.specs.Leap.{gregorian_long}
 use Rattle.months.proofs.Years.{one_more}
 use Rattle.months.proofs.Dates.{no_length}
-use Rattle.months.proofs.MarchDates.{gregorian-positions, gregorian-month}
+use Rattle.months.proofs.MarchDates.{gregorian_positions, gregorian_month}
 use borrow.Author.Rules.{rules}
 use Rattle.march.proofs.gregorian_length.Statement.{statement}
 use Rattle.march.proofs.gregorian_length.Tie as tie
 
 returns : tie.Need-returns
-returns c = let s = c.before in no_length (years gregorian) s.args.i s.args.p (omega (arith, gregorian-positions s.args.i))
+returns c = let s = c.before in no_length (years gregorian) s.args.i s.args.p (omega (arith, gregorian_positions s.args.i))
 
 wraps-requires : tie.Need-wraps-requires
 wraps-requires c κs = search rules
@@ -49,8 +49,8 @@ returns-2 c =
     let x = c.before in
     let w = x.before in
     let s = w.before.before in
-    rw (c.month-length.ensures, x.extra-days.ensures.0, one_more (gregorianLong (87 + s.args.i + w.wraps.result)) 28, w.wraps.ensures.0)
-    (gregorian-month s.args.i s.args.p (omega arith)).length-is
+    rw (c.month-length.ensures, x.extra-days.ensures.0, one_more (gregorian_long (87 + s.args.i + w.wraps.result)) 28, w.wraps.ensures.0)
+    (gregorian_month s.args.i s.args.p (omega arith)).length_is
 
 pub gregorian-length-spec : {M : Type 1} → statement M
 gregorian-length-spec =

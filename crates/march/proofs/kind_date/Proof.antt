@@ -18,7 +18,7 @@ date-in-requires : tie.Need-date-in-requires
 date-in-requires c κs = search rules
 
 returns : tie.Need-returns
-returns c = let s = c.before in rw (to_z-of_z w32 s.args.before s.ranges.before) at c.date-in.ensures
+returns c = let s = c.before in rw (to_z-of_z w32 s.args.before s.ranges.before) at c.date_in.ensures
 
 pub kind-date-spec : {M : Type 1} → statement M
 kind-date-spec = tie.close (tie.spec mul-t add-t cast-date-in date-in-requires returns)

@@ -2,10 +2,10 @@
 use Prim.Native.Nat.{◌+◌, ◌%◌}
 use native.Mathlib.Omega.{arith}
 use lib.Dec.{eqb}
-use Rattle.months.proofs.Years.{by-fours, one_more}
+use Rattle.months.proofs.Years.{by_fours, one_more}
 use Rattle.months.proofs.Dates.{no_length}
-use Rattle.months.specs.March.{julianYears}
-use Rattle.months.proofs.MarchDates.{julian-positions, kind-length}
+use Rattle.months.specs.March.{julian_years}
+use Rattle.months.proofs.MarchDates.{julian_positions, kind_length}
 use borrow.Author.Rules.{rules}
 use Rattle.march.proofs.kind_length.Statement.{statement}
 use Rattle.march.proofs.kind_length.Tie as tie
@@ -13,8 +13,8 @@ use Rattle.march.proofs.kind_length.Tie as tie
 returns : tie.Need-returns
 returns c =
     let s = c.before in
-    no_length (julianYears s.args.z0 s.args.turn) s.args.i s.args.p
-    (omega (arith, julian-positions s.args.z0 s.args.turn s.args.i s.requires))
+    no_length (julian_years s.args.z0 s.args.turn) s.args.i s.args.p
+    (omega (arith, julian_positions s.args.z0 s.args.turn s.args.i s.requires))
 
 wraps-requires : tie.Need-wraps-requires
 wraps-requires c κs = search rules
@@ -48,8 +48,8 @@ returns-2 c =
     let w = c.before in
     let s = w.before.before in
     let z = s.args.z0 + s.args.i + w.wraps.result in
-    rw (c.month-length.ensures, by-fours z, one_more (eqb (z % 4) 3) 28, w.wraps.ensures.0)
-    (kind-length s.args.z0 s.args.turn s.args.i s.args.p s.requires (omega arith))
+    rw (c.month-length.ensures, by_fours z, one_more (eqb (z % 4) 3) 28, w.wraps.ensures.0)
+    (kind_length s.args.z0 s.args.turn s.args.i s.args.p s.requires (omega arith))
 
 pub kind-length-spec : {M : Type 1} → statement M
 kind-length-spec =

@@ -2,10 +2,10 @@
 use Prim.Native.Nat.{◌+◌, ◌%◌}
 use native.Mathlib.Omega.{arith}
 use lib.Dec.{eqb}
-use Rattle.months.proofs.Years.{by-fours, one_more}
-use Rattle.months.proofs.Dates.{no-month}
-use Rattle.months.specs.March.{julianYears, julianFirst}
-use Rattle.months.proofs.MarchDates.{julian-positions, julian-month, julian-room, years-by-4}
+use Rattle.months.proofs.Years.{by_fours, one_more}
+use Rattle.months.proofs.Dates.{no_month_lem}
+use Rattle.months.specs.March.{julian_years, julian_first}
+use Rattle.months.proofs.MarchDates.{julian_positions, julian_month, julian_room, years_by_4}
 use borrow.Author.Rules.{rules}
 use Rattle.march.proofs.kind_month.Statement.{statement}
 use Rattle.march.proofs.kind_month.Tie as tie
@@ -13,8 +13,8 @@ use Rattle.march.proofs.kind_month.Tie as tie
 returns : tie.Need-returns
 returns c =
     let s = c.before in
-    no-month (julianYears s.args.z0 s.args.turn) (julianFirst s.args.z0 s.args.turn) s.args.i s.args.p 0
-    (omega (arith, julian-positions s.args.z0 s.args.turn s.args.i s.requires.0))
+    no_month_lem (julian_years s.args.z0 s.args.turn) (julian_first s.args.z0 s.args.turn) s.args.i s.args.p 0
+    (omega (arith, julian_positions s.args.z0 s.args.turn s.args.i s.requires.0))
 
 wraps-requires : tie.Need-wraps-requires
 wraps-requires c κs = search rules
@@ -58,9 +58,9 @@ sub-t14 c =
     let s = w.before.before in
     omega (
       arith,
-      julian-room s.args.z0 s.args.turn s.args.i s.args.p w.wraps.result s.requires.0 s.requires.1 (omega arith)
+      julian_room s.args.z0 s.args.turn s.args.i s.args.p w.wraps.result s.requires.0 s.requires.1 (omega arith)
           w.wraps.ensures.1 w.wraps.ensures.2,
-      c.days-before.ensures,
+      c.days_before.ensures,
     )
 
 returns-2 : tie.Need-returns-2
@@ -68,8 +68,8 @@ returns-2 c =
     let w = c.before.before in
     let s = w.before.before in
     let z = s.args.z0 + s.args.i + w.wraps.result in
-    rw (years-by-4 z, c.days-before.ensures, c.before.month-length.ensures, by-fours z, one_more (eqb (z % 4) 3) 28, w.wraps.ensures.0)
-    (julian-month s.args.z0 s.args.turn s.args.i s.args.p s.requires.0 s.requires.1 (omega arith))
+    rw (years_by_4 z, c.days_before.ensures, c.before.month-length.ensures, by_fours z, one_more (eqb (z % 4) 3) 28, w.wraps.ensures.0)
+    (julian_month s.args.z0 s.args.turn s.args.i s.args.p s.requires.0 s.requires.1 (omega arith))
 
 pub kind-month-spec : {M : Type 1} → statement M
 kind-month-spec =

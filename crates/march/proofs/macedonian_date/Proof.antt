@@ -3,8 +3,8 @@ use native.Mathlib.Omega.{arith}
 use lib.IntN.{pos}
 use Rattle.counting.specs.Answers.{years}
 use Rattle.calendar_rules.specs.Calendars.{macedonian}
-use Rattle.months.proofs.Dates.{early-place, later-place}
-use Rattle.months.proofs.MarchDates.{macedonian-date}
+use Rattle.months.proofs.Dates.{early_place, later_place}
+use Rattle.months.proofs.MarchDates.{macedonian_date}
 use borrow.Author.Rules.{rules}
 use Rattle.march.proofs.macedonian_date.Statement.{statement}
 use Rattle.march.proofs.macedonian_date.Tie as tie
@@ -13,7 +13,7 @@ nowhere-requires : tie.Need-nowhere-requires
 nowhere-requires c κs = search rules
 
 returns : tie.Need-returns
-returns c = early-place (years macedonian) (pos 1) 1607709 c.before.before.args.day _ _ _ (omega arith) c.nowhere.ensures
+returns c = early_place (years macedonian) (pos 1) 1607709 c.before.before.args.day _ _ _ (omega arith) c.nowhere.ensures
 
 add-kind-date : tie.Need-overflow-add-kind-date
 add-kind-date c = search rules
@@ -24,7 +24,7 @@ kind-date-requires c κs = search rules
 returns-2 : tie.Need-returns-2
 returns-2 c =
     let day = c.before.before.args.day in
-    later-place (years macedonian) (pos 1) 1607709 day _ _ _ (omega arith) (macedonian-date day _ _ _ (omega arith) c.kind-date.ensures)
+    later_place (years macedonian) (pos 1) 1607709 day _ _ _ (omega arith) (macedonian_date day _ _ _ (omega arith) c.kind_date.ensures)
 
 pub macedonian-date-spec : {M : Type 1} → statement M
 macedonian-date-spec =

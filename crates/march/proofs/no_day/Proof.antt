@@ -2,9 +2,9 @@
 use mathlib.Core.Path.{sym, ◌∙◌}
 use borrow.Author.Tests.{eqb-false, leb-true, not-true}
 use Rattle.basics.proofs.Cases.{both}
-use Rattle.months.specs.Leap.{gregorianLong}
+use Rattle.months.specs.Leap.{gregorian_long}
 use Rattle.months.proofs.Years.{none_of}
-use Rattle.months.proofs.MarchDates.{has-day, lacks-day, leap-day}
+use Rattle.months.proofs.MarchDates.{has_day, lacks_day, leap_day}
 use borrow.Author.Rules.{rules}
 use Rattle.march.proofs.no_day.Statement.{statement}
 use Rattle.march.proofs.no_day.Tie as tie
@@ -22,13 +22,13 @@ returns : tie.Need-returns
 returns c =
     let s = c.before.before in
     let b = both _ _ (rw c.before.pick.ensures.0 at c.if1.true) in
-    sym (has-day s.args.q s.args.day (gregorianLong s.args.z) (eqb-false _ _ (not-true _ b.0)) (leb-true _ _ b.1))
+    sym (has_day s.args.q s.args.day (gregorian_long s.args.z) (eqb-false _ _ (not-true _ b.0)) (leb-true _ _ b.1))
 
 returns-2 : tie.Need-returns-2
 returns-2 c =
     let e = c.before in
     let s = e.before.before in
-    sym (lacks-day s.args.q s.args.day (gregorianLong s.args.z) (rw e.before.pick.ensures.0 at e.if1.false) c.if2.true)
+    sym (lacks_day s.args.q s.args.day (gregorian_long s.args.z) (rw e.before.pick.ensures.0 at e.if1.false) c.if2.true)
 
 extra-days-requires : tie.Need-extra-days-requires
 extra-days-requires c κs = search rules
@@ -37,7 +37,7 @@ returns-3 : tie.Need-returns-3
 returns-3 c =
     let s = c.before.before.before.before in
     rw c.extra-days.ensures.0
-    (none_of (gregorianLong s.args.z) ∙ sym (leap-day s.args.q s.args.day (gregorianLong s.args.z) c.before.if2.false))
+    (none_of (gregorian_long s.args.z) ∙ sym (leap_day s.args.q s.args.day (gregorian_long s.args.z) c.before.if2.false))
 
 pub no-day-spec : {M : Type 1} → statement M
 no-day-spec =

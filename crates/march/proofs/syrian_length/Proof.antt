@@ -3,7 +3,7 @@ use mathlib.Core.List.{List}
 use mathlib.Core.Path.{ap, ◌∙◌}
 use Prim.Native.Nat.{ℕ}
 use lib.ListN.{get_or}
-use Rattle.months.proofs.MarchDates.{syrian-years}
+use Rattle.months.proofs.MarchDates.{syrian_years}
 use borrow.Author.Rules.{rules}
 use Rattle.march.proofs.syrian_length.Statement.{statement}
 use Rattle.march.proofs.syrian_length.Tie as tie
@@ -12,7 +12,7 @@ kind-length-requires : tie.Need-kind-length-requires
 kind-length-requires c κs = search rules
 
 returns : tie.Need-returns
-returns c = c.kind-length.ensures ∙ ap (λ (L : ℕ → List ℕ). get_or (L c.before.args.i) c.before.args.p 0) syrian-years
+returns c = c.kind_length.ensures ∙ ap (λ (L : ℕ → List ℕ). get_or (L c.before.args.i) c.before.args.p 0) syrian_years
 
 pub syrian-length-spec : {M : Type 1} → statement M
 syrian-length-spec = tie.close (tie.spec kind-length-requires returns)

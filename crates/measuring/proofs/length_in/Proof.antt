@@ -2,7 +2,7 @@
 use mathlib.Core.Path.{refl}
 use native.Mathlib.Omega.{arith}
 use Rattle.calendar_rules.specs.Calendars.{julian, gregorian, lookup, calendar}
-use Rattle.asking.proofs.Arms.{from_first, from-1, too-early}
+use Rattle.asking.proofs.Arms.{from_first, from_1, too_early}
 use borrow.Author.Rules.{rules}
 use Rattle.measuring.proofs.length_in.Statement.{statement}
 use Rattle.measuring.proofs.length_in.Tie as tie
@@ -24,7 +24,7 @@ returns-2 c =
     from_first s.args.y s.requires 11 gregorian c.before.if2.true refl refl c.gregorian-length.ensures
 
 returns-3 : tie.Need-returns-3
-returns-3 c = let s = c.before.before.before in too-early s.args.y s.requires refl c.before.before.if1.false c.before.if2.false c.if3.true
+returns-3 c = let s = c.before.before.before in too_early s.args.y s.requires refl c.before.before.if1.false c.before.if2.false c.if3.true
 
 later-length-requires : tie.Need-later-length-requires
 later-length-requires c κs = (c.before.before.if1.false, c.before.if2.false)
@@ -33,7 +33,7 @@ returns-4 : tie.Need-returns-4
 returns-4 c =
     let e = c.before in
     let s = e.before.before.before in
-    from-1 s.args.y s.requires e.before.before.if1.false e.before.if2.false (omega (arith, e.if3.false)) c.later-length.ensures
+    from_1 s.args.y s.requires e.before.before.if1.false e.before.if2.false (omega (arith, e.if3.false)) c.later-length.ensures
 
 pub length-in-spec : {M : Type 1} → statement M
 length-in-spec =

@@ -9,60 +9,60 @@ use lib.Signed.{lt_z}
 use mir.Syntax.{w64}
 use mir.Val.{SFits, to_z, of_z}
 use mir.ValLaws.{to_z-of_z}
-use Rattle.counting.specs.Years.{yearsFrom}
-use Rattle.counting.specs.Answers.{Calendar, lastYear, yearOut, noMonth}
-use Rattle.counting.proofs.Signs.{placed, years-small}
+use Rattle.counting.specs.Years.{years_from}
+use Rattle.counting.specs.Answers.{Calendar, last_year, year_out, no_month}
+use Rattle.counting.proofs.Signs.{placed, years_small}
 use Rattle.calendar_rules.specs.Calendars.{hebrew, lookup, calendar}
-use Rattle.calendar_rules.specs.Answers.{dayAnswer}
+use Rattle.calendar_rules.specs.Answers.{day_answer}
 use Rattle.months.specs.Parts.{MonthOf}
-use Rattle.asking.specs.Steps.{OfListed, Sought, in_range, endTried, packedDay, noneNumber, packedNone}
+use Rattle.asking.specs.Steps.{OfListed, Sought, in_range, end_tried, packed_day, none_number, packed_none}
 use Rattle.asking.proofs.Arms.{arm, never}
-use Rattle.asking.proofs.Answers.{day-none, nowhere-0, not_found, found, end-of-other}
+use Rattle.asking.proofs.Answers.{day_none, nowhere_0, not_found, found, end_of_other}
 use borrow.Author.Rules.{rules}
 use Rattle.numbering.proofs.hebrew_day.Statement.{statement}
 use Rattle.numbering.proofs.hebrew_day.Tie as tie
 
-year-is : (s : tie.Start) → to_z w64 (of_z w64 s.args.year) ≡ s.args.year
-year-is s = to_z-of_z w64 s.args.year s.ranges.year
+year_is : (s : tie.Start) → to_z w64 (of_z w64 s.args.year) ≡ s.args.year
+year_is s = to_z-of_z w64 s.args.year s.ranges.year
 
 -- where the year is, by the tests
-not-early : (e : tie.Else1) → lt_z e.before.args.year (pos 1) ≡ false
-not-early e = rw (year-is e.before) at e.if1.false
+not_early : (e : tie.Else1) → lt_z e.before.args.year (pos 1) ≡ false
+not_early e = rw (year_is e.before) at e.if1.false
 
-not_late : (e : tie.Else2) → lt_z lastYear e.before.before.args.year ≡ false
-not_late e = rw (year-is e.before.before) at e.if2.false
+not_late : (e : tie.Else2) → lt_z last_year e.before.before.args.year ≡ false
+not_late e = rw (year_is e.before.before) at e.if2.false
 
 -- what holds of this calendar holds of the one that is listed for 18
-listed-18 : (P : Calendar → Type 0) → P hebrew → OfListed 18 P
+listed_18 : (P : Calendar → Type 0) → P hebrew → OfListed 18 P
 unfolding calendar lookup
-listed-18 P p = arm 18 P refl refl p
+listed_18 P p = arm 18 P refl refl p
 
 row-18 : calendar 18 ≡ Option.some hebrew
 unfolding calendar lookup
 row-18 = refl
 
 -- a year that it does not have
-refused : (s : tie.Start) → yearOut hebrew s.args.year ≡ true → 8589934592 ≡ packedDay (dayAnswer 18 s.args.year s.args.month s.args.day)
-unfolding noneNumber calendar lookup
+refused : (s : tie.Start) → year_out hebrew s.args.year ≡ true → 8589934592 ≡ packed_day (day_answer 18 s.args.year s.args.month s.args.day)
+unfolding none_number calendar lookup
 refused s t =
-    let n : 8589934592 ≡ packedNone 18 s.args.year = rw t refl in
-    n ∙ day-none 18 s.args.year s.args.month
-    (listed-18 (λ K. yearOut K s.args.year ≡ false → noMonth K s.args.year s.args.month ≡ true) (λ f. absurd (true≢false (sym t ∙ f))))
+    let n : 8589934592 ≡ packed_none 18 s.args.year = rw t refl in
+    n ∙ day_none 18 s.args.year s.args.month
+    (listed_18 (λ K. year_out K s.args.year ≡ false → no_month K s.args.year s.args.month ≡ true) (λ f. absurd (true≢false (sym t ∙ f))))
     s.args.day
 
 -- one that it has
-no-position : (e : tie.Else2) → 12884901888 ≡ packedNone 18 e.before.before.args.year
-unfolding noneNumber calendar lookup
-no-position e = rw (not-early e.before, not_late e) refl
+no_position_lem : (e : tie.Else2) → 12884901888 ≡ packed_none 18 e.before.before.args.year
+unfolding none_number calendar lookup
+no_position_lem e = rw (not_early e.before, not_late e) refl
 
 abbrev place : tie.Else2 → ℕ
-place e = yearsFrom (pos 1) e.before.before.args.year
+place e = years_from (pos 1) e.before.before.args.year
 
 difference : (e : tie.Else2) → to_z w64 (of_z w64 e.before.before.args.year) -ℤ pos 1 ≡ pos (place e)
-difference e = rw (year-is e.before.before) (placed (pos 1) e.before.before.args.year (not-early e.before)).0
+difference e = rw (year_is e.before.before) (placed (pos 1) e.before.before.args.year (not_early e.before)).0
 
 few : (e : tie.Else2) → place e ≤ 20002
-few e = years-small (pos 1) e.before.before.args.year 1 (omega arith) (not-early e.before) (not_late e)
+few e = years_small (pos 1) e.before.before.args.year 1 (omega arith) (not_early e.before) (not_late e)
 
 small : (e : tie.Else2) → SFits w64 (pos (place e))
 small e = record { sfits = omega (arith, few e) }
@@ -76,11 +76,11 @@ month m =
     let s = e.before.before in
     let d = m.month-at.result.days in
     let P : Calendar → ℕ → Type 0 = λ K i. MonthOf K i (s.args.month - 1) m.month-at.result.start d in
-    let o : yearOut hebrew s.args.year ≡ false = rw (not-early e.before, not_late e) refl in
+    let o : year_out hebrew s.args.year ≡ false = rw (not_early e.before, not_late e) refl in
     record {
       off = λ f. never (sym row-18 ∙ f);
-      out = listed-18 (λ K. yearOut K s.args.year ≡ true → d ≡ 0) (λ t. absurd (true≢false (sym t ∙ o)));
-      there = listed-18 (λ K. yearOut K s.args.year ≡ false → P K (yearsFrom K.firstYear s.args.year))
+      out = listed_18 (λ K. year_out K s.args.year ≡ true → d ≡ 0) (λ t. absurd (true≢false (sym t ∙ o)));
+      there = listed_18 (λ K. year_out K s.args.year ≡ false → P K (years_from K.first_year s.args.year))
           (λ t. rw (difference e, to_z-of_z w64 (pos (place e)) (small e)) at m.month-at.ensures);
     }
 
@@ -90,23 +90,23 @@ there : (e : tie.Else4)
     let s = m.before.before.before.before in
     let n = m.month-at.result.start + (s.args.day - 1) in
     (1 ≤ s.args.day) × (s.args.day ≤ 385) × (m.month-at.result.start ≤ 20000000)
-    × (endTried 18 (in_range n) ≡ packedDay (dayAnswer 18 s.args.year s.args.month s.args.day))
+    × (end_tried 18 (in_range n) ≡ packed_day (day_answer 18 s.args.year s.args.month s.args.day))
 there e =
     let m = e.before.before in
     let s = m.before.before.before.before in
     found s.args.month (month m) m.before.if3.false s.args.day e.if4.false
 
 returns : tie.Need-returns
-returns c = let s = c.before in refused s (rw (rw (year-is s) at c.if1.true) refl)
+returns c = let s = c.before in refused s (rw (rw (year_is s) at c.if1.true) refl)
 
 returns-2 : tie.Need-returns-2
-returns-2 c = let s = c.before.before in refused s (rw (not-early c.before, rw (year-is s) at c.if2.true) refl)
+returns-2 c = let s = c.before.before in refused s (rw (not_early c.before, rw (year_is s) at c.if2.true) refl)
 
 returns-3 : tie.Need-returns-3
 returns-3 c =
     let e = c.before in
     let s = e.before.before in
-    no-position e ∙ day-none 18 s.args.year s.args.month (nowhere-0 18 s.args.year s.args.month c.if3.true) s.args.day
+    no_position_lem e ∙ day_none 18 s.args.year s.args.month (nowhere_0 18 s.args.year s.args.month c.if3.true) s.args.day
 
 sub-month-at : tie.Need-overflow-sub-month-at
 sub-month-at c = rw (difference c.before) (small c.before)
@@ -128,7 +128,7 @@ returns-4 c =
     let t = c.before in
     let m = t.before.before in
     let s = m.before.before.before.before in
-    (rw (year-is s) at c.no-day.ensures) ∙ not_found s.args.month (month m) m.before.if3.false s.args.day t.if4.true
+    (rw (year_is s) at c.no_day_lem.ensures) ∙ not_found s.args.month (month m) m.before.if3.false s.args.day t.if4.true
 
 sub-in-time : tie.Need-overflow-sub-in-time
 sub-in-time c = (there c).0
@@ -144,7 +144,7 @@ returns-5 c =
     let e = c.before.before in
     let m = e.before.before in
     let n = m.month-at.result.start + (m.before.before.before.before.args.day - 1) in
-    c.in-time.ensures ∙ end-of-other (in_range n) (omega arith) ∙ (there e).3
+    c.in_time.ensures ∙ end_of_other (in_range n) (omega arith) ∙ (there e).3
 
 pub hebrew-day-spec : {M : Type 1} → statement M
 hebrew-day-spec =

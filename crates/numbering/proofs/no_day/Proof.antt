@@ -11,7 +11,7 @@ no-month-requires : tie.Need-no-month-requires
 no-month-requires c κs = search rules
 
 returns : tie.Need-returns
-returns c = let s = c.before.before in rw (eq-eqb _ _ c.before.if1.true) (rw (to_z-of_z w64 s.args.year s.ranges.year) at c.no-month.ensures)
+returns c = let s = c.before.before in rw (eq-eqb _ _ c.before.if1.true) (rw (to_z-of_z w64 s.args.year s.ranges.year) at c.no_month_lem.ensures)
 
 returns-2 : tie.Need-returns-2
 returns-2 c = rw (ne_eqb _ _ c.if1.false) refl

@@ -8,51 +8,51 @@ use lib.Signed.{lt_z}
 use mir.Syntax.{w64}
 use mir.Val.{to_z, of_z}
 use mir.ValLaws.{to_z-of_z}
-use Rattle.counting.specs.Answers.{Calendar, lastYear}
-use Rattle.calendar_rules.specs.Answers.{dayAnswer}
+use Rattle.counting.specs.Answers.{Calendar, last_year}
+use Rattle.calendar_rules.specs.Answers.{day_answer}
 use Rattle.months.specs.Parts.{MonthOf}
-use Rattle.asking.specs.Steps.{yearInside, in_range, endTried, packedDay, Sought}
+use Rattle.asking.specs.Steps.{year_inside, in_range, end_tried, packed_day, Sought}
 use Rattle.asking.proofs.Since.{outside, Since, since}
-use Rattle.asking.proofs.Answers.{day-none, nowhere-year, nowhere-0, not_found, found}
+use Rattle.asking.proofs.Answers.{day_none, nowhere_year, nowhere_0, not_found, found}
 use borrow.Author.Rules.{rules}
 use Rattle.numbering.proofs.other_day.Statement.{statement}
 use Rattle.numbering.proofs.other_day.Tie as tie
 
-year-is : (s : tie.Start) → to_z w64 (of_z w64 s.args.year) ≡ s.args.year
-year-is s = to_z-of_z w64 s.args.year s.ranges.year
+year_is : (s : tie.Start) → to_z w64 (of_z w64 s.args.year) ≡ s.args.year
+year_is s = to_z-of_z w64 s.args.year s.ranges.year
 
 -- the year
-test : (a : tie.After-year-inside) → a.year-inside.result ≡ yearInside a.before.args.year
-test a = rw (year-is a.before) at a.year-inside.ensures
+test : (a : tie.After-year-inside) → a.year-inside.result ≡ year_inside a.before.args.year
+test a = rw (year_is a.before) at a.year-inside.ensures
 
-taken : (t : tie.Then1) → yearInside t.before.before.args.year ≡ true
+taken : (t : tie.Then1) → year_inside t.before.before.args.year ≡ true
 taken t = sym (test t.before) ∙ t.if1.true
 
-left : (e : tie.Else1) → (lt_z e.before.before.args.year (negsuc 4711) || lt_z lastYear e.before.before.args.year) ≡ true
+left : (e : tie.Else1) → (lt_z e.before.before.args.year (negsuc 4711) || lt_z last_year e.before.before.args.year) ≡ true
 left e = outside e.before.before.args.year (sym (test e.before) ∙ e.if1.false)
 
 years : (y : tie.After-since) → Since y.before.before.before.before.args.year y.since.result
 years y =
     let s = y.before.before.before.before in
-    since s.args.year y.since.result (taken y.before.before) (rw (year-is s) at y.since.ensures)
+    since s.args.year y.since.result (taken y.before.before) (rw (year_is s) at y.since.ensures)
 
 -- the position that was found
 month : (m : tie.After-month-in)
     → let s = m.before.before.before.before.before in
-    Sought s.args.calendar s.args.year (λ K i. MonthOf K i (s.args.month - 1) m.month-in.result.start m.month-in.result.days)
-    m.month-in.result.days
+    Sought s.args.calendar s.args.year (λ K i. MonthOf K i (s.args.month - 1) m.month_in.result.start m.month_in.result.days)
+    m.month_in.result.days
 month m =
     let s = m.before.before.before.before.before in
-    let P : Calendar → ℕ → Type 0 = λ K i. MonthOf K i (s.args.month - 1) m.month-in.result.start m.month-in.result.days in
-    subst (λ (z : ℤ). Sought s.args.calendar z P m.month-in.result.days) (years m.before).back m.month-in.ensures
+    let P : Calendar → ℕ → Type 0 = λ K i. MonthOf K i (s.args.month - 1) m.month_in.result.start m.month_in.result.days in
+    subst (λ (z : ℤ). Sought s.args.calendar z P m.month_in.result.days) (years m.before).back m.month_in.ensures
 
 -- the position has the day
 there : (e : tie.Else3)
     → let m = e.before.before in
     let s = m.before.before.before.before.before in
-    let n = m.month-in.result.start + (s.args.day - 1) in
-    (1 ≤ s.args.day) × (s.args.day ≤ 385) × (m.month-in.result.start ≤ 20000000)
-    × (endTried s.args.calendar (in_range n) ≡ packedDay (dayAnswer s.args.calendar s.args.year s.args.month s.args.day))
+    let n = m.month_in.result.start + (s.args.day - 1) in
+    (1 ≤ s.args.day) × (s.args.day ≤ 385) × (m.month_in.result.start ≤ 20000000)
+    × (end_tried s.args.calendar (in_range n) ≡ packed_day (day_answer s.args.calendar s.args.year s.args.month s.args.day))
 there e =
     let m = e.before.before in
     let s = m.before.before.before.before.before in
@@ -69,8 +69,8 @@ returns c =
     let t = c.before in
     let s = t.before.before.before in
     let n = s.args.calendar in
-    (rw (year-is s) at c.no-month.ensures)
-    ∙ day-none n s.args.year s.args.month (nowhere-0 n s.args.year s.args.month t.if2.true)
+    (rw (year_is s) at c.no_month_lem.ensures)
+    ∙ day_none n s.args.year s.args.month (nowhere_0 n s.args.year s.args.month t.if2.true)
     s.args.day
 
 since-requires : tie.Need-since-requires
@@ -90,7 +90,7 @@ returns-2 c =
     let t = c.before in
     let m = t.before.before in
     let s = m.before.before.before.before.before in
-    (rw (year-is s) at c.no-day.ensures)
+    (rw (year_is s) at c.no_day_lem.ensures)
     ∙ not_found s.args.month (month m) m.before.before.if2.false s.args.day t.if3.true
 
 sub-limited : tie.Need-overflow-sub-limited
@@ -116,8 +116,8 @@ returns-4 c =
     let e = c.before in
     let s = e.before.before in
     let n = s.args.calendar in
-    (rw (year-is s) at c.no-month2.ensures)
-    ∙ day-none n s.args.year s.args.month (nowhere-year n s.args.year s.args.month (left e)) s.args.day
+    (rw (year_is s) at c.no-month2.ensures)
+    ∙ day_none n s.args.year s.args.month (nowhere_year n s.args.year s.args.month (left e)) s.args.day
 
 pub other-day-spec : {M : Type 1} → statement M
 other-day-spec =

@@ -21,7 +21,7 @@ other-day-requires : tie.Need-other-day-requires
 other-day-requires c κs = (c.before.if1.false, c.if2.false)
 
 returns-3 : tie.Need-returns-3
-returns-3 c = let s = c.before.before.before in rw (to_z-of_z w64 s.args.year s.ranges.year) at c.other-day.ensures
+returns-3 c = let s = c.before.before.before in rw (to_z-of_z w64 s.args.year s.ranges.year) at c.other_day.ensures
 
 pub packed-day-spec : {M : Type 1} → statement M
 packed-day-spec =

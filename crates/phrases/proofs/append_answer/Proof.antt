@@ -7,14 +7,14 @@ use Prim.Native.Nat.{ℕ}
 use borrow.Author.Tests.{ne_eqb}
 use Rattle.words.specs.Text.{bytes}
 use Rattle.words.specs.Names.{name_of}
-use Rattle.phrases.specs.Phrases.{answerWords}
+use Rattle.phrases.specs.Phrases.{answer_words}
 use borrow.Author.Rules.{rules}
 use Rattle.phrases.proofs.append_answer.Statement.{statement}
 use Rattle.phrases.proofs.append_answer.Tie as tie
 
 no_words : (n : ℕ) → ¬ (n ≡ 0) → ¬ (n ≡ 1) → ¬ (n ≡ 2) → ¬ (n ≡ 3) → ¬ (n ≡ 4) → ¬ (n ≡ 5) → ¬ (n ≡ 6) → ¬ (n ≡ 7) → ¬ (n ≡ 8)
-    → ¬ (n ≡ 9) → ¬ (n ≡ 10) → ¬ (n ≡ 11) → ¬ (n ≡ 13) → ¬ (n ≡ 17) → name_of answerWords n ≡ []
-unfolding name_of answerWords
+    → ¬ (n ≡ 9) → ¬ (n ≡ 10) → ¬ (n ≡ 11) → ¬ (n ≡ 13) → ¬ (n ≡ 17) → name_of answer_words n ≡ []
+unfolding name_of answer_words
 no_words n a b d e f g h i j k l m o p =
     rw (other 0 a, other 1 b, other 2 d, other 3 e, other 4 f, other 5 g, other 6 h, other 7 i, other 8 j, other 9 k, other 10 l, other 11 m, other 13 o, other 17 p)
   where
@@ -115,98 +115,98 @@ same_length : tie.Need-same-length
 same_length c = search rules
 
 returns : tie.Need-returns
-unfolding name_of answerWords bytes
+unfolding name_of answer_words bytes
 returns c = rw c.before.before.before.before.before.match.keys1 c.before.before.append.ensures
 
 same-length-2 : tie.Need-same-length-2
 same-length-2 c = search rules
 
 returns-2 : tie.Need-returns-2
-unfolding name_of answerWords bytes
+unfolding name_of answer_words bytes
 returns-2 c = rw c.before.before.before.before.before.match.keys2 c.before.before.append2.ensures
 
 same-length-3 : tie.Need-same-length-3
 same-length-3 c = search rules
 
 returns-3 : tie.Need-returns-3
-unfolding name_of answerWords bytes
+unfolding name_of answer_words bytes
 returns-3 c = rw c.before.before.before.before.before.match.keys3 c.before.before.append3.ensures
 
 same-length-4 : tie.Need-same-length-4
 same-length-4 c = search rules
 
 returns-4 : tie.Need-returns-4
-unfolding name_of answerWords bytes
+unfolding name_of answer_words bytes
 returns-4 c = rw c.before.before.before.before.before.match.keys4 c.before.before.append4.ensures
 
 same-length-5 : tie.Need-same-length-5
 same-length-5 c = search rules
 
 returns-5 : tie.Need-returns-5
-unfolding name_of answerWords bytes
+unfolding name_of answer_words bytes
 returns-5 c = rw c.before.before.before.before.before.match.keys5 c.before.before.append5.ensures
 
 same-length-6 : tie.Need-same-length-6
 same-length-6 c = search rules
 
 returns-6 : tie.Need-returns-6
-unfolding name_of answerWords bytes
+unfolding name_of answer_words bytes
 returns-6 c = rw c.before.before.before.before.before.match.keys6 c.before.before.append6.ensures
 
 same-length-7 : tie.Need-same-length-7
 same-length-7 c = search rules
 
 returns-7 : tie.Need-returns-7
-unfolding name_of answerWords bytes
+unfolding name_of answer_words bytes
 returns-7 c = rw c.before.before.before.before.before.match.keys7 c.before.before.append7.ensures
 
 same-length-8 : tie.Need-same-length-8
 same-length-8 c = search rules
 
 returns-8 : tie.Need-returns-8
-unfolding name_of answerWords bytes
+unfolding name_of answer_words bytes
 returns-8 c = rw c.before.before.before.before.before.match.keys8 c.before.before.append8.ensures
 
 same-length-9 : tie.Need-same-length-9
 same-length-9 c = search rules
 
 returns-9 : tie.Need-returns-9
-unfolding name_of answerWords bytes
+unfolding name_of answer_words bytes
 returns-9 c = rw c.before.before.before.before.before.match.keys9 c.before.before.append9.ensures
 
 same-length-10 : tie.Need-same-length-10
 same-length-10 c = search rules
 
 returns-10 : tie.Need-returns-10
-unfolding name_of answerWords bytes
+unfolding name_of answer_words bytes
 returns-10 c = rw c.before.before.before.before.before.match.keys10 c.before.before.append10.ensures
 
 same-length-11 : tie.Need-same-length-11
 same-length-11 c = search rules
 
 returns-11 : tie.Need-returns-11
-unfolding name_of answerWords bytes
+unfolding name_of answer_words bytes
 returns-11 c = rw c.before.before.before.before.before.match.keys11 c.before.before.append11.ensures
 
 same-length-12 : tie.Need-same-length-12
 same-length-12 c = search rules
 
 returns-12 : tie.Need-returns-12
-unfolding name_of answerWords bytes
+unfolding name_of answer_words bytes
 returns-12 c = rw c.before.before.before.before.before.match.keys12 c.before.before.append12.ensures
 
 same-length-13 : tie.Need-same-length-13
 same-length-13 c = search rules
 
 returns-13 : tie.Need-returns-13
-unfolding name_of answerWords bytes
+unfolding name_of answer_words bytes
 returns-13 c = rw c.before.before.before.before.before.match.keys13 c.before.before.append13.ensures
 
 same-length-14 : tie.Need-same-length-14
 same-length-14 c = search rules
 
 returns-14 : tie.Need-returns-14
-unfolding name_of answerWords bytes
+unfolding name_of answer_words bytes
 returns-14 c = rw c.before.before.before.before.before.match.keys14 c.before.before.append14.ensures
 
 same-length-15 : tie.Need-same-length-15

@@ -2,7 +2,7 @@
 use borrow.Author.Rules.{rules}
 use Rattle.words.specs.Text.{bytes}
 use Rattle.texts.proofs.Writing.{then}
-use Rattle.phrases.specs.Phrases.{refusalText}
+use Rattle.phrases.specs.Phrases.{refusal_text}
 use Rattle.phrases.proofs.append_refusal.Statement.{statement}
 use Rattle.phrases.proofs.append_refusal.Tie as tie
 
@@ -31,7 +31,7 @@ same_length : tie.Need-same-length
 same_length c = search rules
 
 returns : tie.Need-returns
-unfolding refusalText bytes
+unfolding refusal_text bytes
 returns c =
     let d = c.before.before in
     let p = d.before.before.before.before in

@@ -5,7 +5,7 @@ use native.Mathlib.Omega.{arith}
 use borrow.Author.Rules.{rules}
 use lib.ListN.{length, take, drop, length-take}
 use lib.Seq.{length-take-le}
-use Rattle.judging.proofs.Piece.{written-within, consumed-within, finished-within}
+use Rattle.judging.proofs.Piece.{written_within, consumed_within, finished_within}
 use Rattle.piecewise.proofs.run.Statement.{statement}
 use Rattle.piecewise.proofs.run.Tie as tie
 
@@ -43,10 +43,10 @@ judge-piece-requires : tie.Need-judge-piece-requires invariant-loop decreases-lo
 judge-piece-requires c κs = search rules
 
 slice-reshare-prefix-write : tie.Need-slice-reshare-prefix-write invariant-loop decreases-loop
-slice-reshare-prefix-write c = written-within c.before.before.before.judge-piece.ensures
+slice-reshare-prefix-write c = written_within c.before.before.before.judge-piece.ensures
 
 slice-aggregate-write : tie.Need-slice-aggregate-write invariant-loop decreases-loop
-slice-aggregate-write c = sym (length-take-le _ _ (written-within c.before.before.before.before.judge-piece.ensures))
+slice-aggregate-write c = sym (length-take-le _ _ (written_within c.before.before.before.before.judge-piece.ensures))
 
 write-requires : tie.Need-write-requires invariant-loop decreases-loop
 write-requires c κs = search rules
@@ -72,7 +72,7 @@ taken-within c =
     let a = l.before.before.before.before.before.before.args in
     let at = l.before.before.loop.at in
     let n = at + l.least.result in
-    omega (arith, consumed-within (take (n - at) (drop at a.input.now)) p.judge-piece.ensures, length-take (n - at) (drop at a.input.now))
+    omega (arith, consumed_within (take (n - at) (drop at a.input.now)) p.judge-piece.ensures, length-take (n - at) (drop at a.input.now))
 
 add_at : tie.Need-overflow-add-at invariant-loop decreases-loop
 add_at c = omega (arith, taken-within c)
@@ -87,10 +87,10 @@ finish-requires : tie.Need-finish-requires invariant-loop decreases-loop
 finish-requires c κs = search rules
 
 array-share-prefix-bytes : tie.Need-array-share-prefix-bytes invariant-loop decreases-loop
-array-share-prefix-bytes c = finished-within _ _ c.before.finish.ensures
+array-share-prefix-bytes c = finished_within _ _ c.before.finish.ensures
 
 slice-aggregate-write-2 : tie.Need-slice-aggregate-write-2 invariant-loop decreases-loop
-slice-aggregate-write-2 c = sym (length-take-le _ _ (finished-within _ _ c.before.before.finish.ensures))
+slice-aggregate-write-2 c = sym (length-take-le _ _ (finished_within _ _ c.before.before.finish.ensures))
 
 write-requires-2 : tie.Need-write-requires-2 invariant-loop decreases-loop
 write-requires-2 c κs = search rules

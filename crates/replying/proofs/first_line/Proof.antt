@@ -7,46 +7,46 @@ use native.Mathlib.Omega.{arith}
 use lib.ListN.{length, take, get_or, length-take, get_or-eq_default}
 use borrow.Author.Rules.{rules}
 use borrow.Author.Tests.{ne_eqb}
-use Rattle.hex.specs.Digits.{sixteenDigits}
+use Rattle.hex_digits.specs.Digits.{sixteen_digits}
 use Rattle.frames.specs.declared.Frame as declared
 use Rattle.frames.specs.declared.Reading.TheVariants.{Fields, Malformed}
 use Rattle.frames.specs.Frame.{reading_of}
-use Rattle.frames.proofs.Claims.{is-fields, is-malformed}
+use Rattle.frames.proofs.Claims.{is_fields, is_malformed}
 use Rattle.streaming.specs.Lines.{newline}
-use Rattle.verdicts.specs.Verdict.{verdictOn, verdictOf}
+use Rattle.verdicts.specs.Verdict.{verdict_on, verdict_of}
 use Rattle.verdicts.proofs.Verdicts.{frame}
 use Rattle.replying.specs.declared.Line.TheVariants.{Frame, Other}
-use Rattle.replying.specs.First.{firstLine}
-use Rattle.replying.proofs.Claims.{frame-first}
+use Rattle.replying.specs.First.{first_line}
+use Rattle.replying.proofs.Claims.{frame_first}
 use Rattle.replying.proofs.first_line.Statement.{statement}
 use Rattle.replying.proofs.first_line.Tie as tie
 
 -- a frame that was read and judged
-is-frame : (s : List ℕ) (stop v : ℕ) (f : declared.Frame) → stop < length s → get_or s stop 0 ≡ newline → Fields f ≡ reading_of (take stop s) → v ≡ verdictOn f
-    → stop ≡ 16 → Frame v ≡ firstLine s
+is-frame : (s : List ℕ) (stop v : ℕ) (f : declared.Frame) → stop < length s → get_or s stop 0 ≡ newline → Fields f ≡ reading_of (take stop s) → v ≡ verdict_on f
+    → stop ≡ 16 → Frame v ≡ first_line s
 is-frame s stop v f l e d w h =
-    let r = is-fields (take 16 s) f (rw h at d) in
-    (frame-first s v).1 (record {
+    let r = is_fields (take 16 s) f (rw h at d) in
+    (frame_first s v).1 (record {
       digits = r.0;
       within = omega arith;
       ends = rw h at e;
-      verdict = w ∙ ap verdictOn r.1 ∙ sym (frame (take 16 s) r.0);
+      verdict = w ∙ ap verdict_on r.1 ∙ sym (frame (take 16 s) r.0);
     })
 
 -- something else
-no-digits : (s : List ℕ) (stop : ℕ) → get_or s stop 0 ≡ newline → Malformed ≡ reading_of (take stop s) → stop ≡ 16 → Other ≡ firstLine s
-unfolding firstLine
-no-digits s stop e d h = rw (is-malformed (take 16 s) (rw h at d))
+no-digits : (s : List ℕ) (stop : ℕ) → get_or s stop 0 ≡ newline → Malformed ≡ reading_of (take stop s) → stop ≡ 16 → Other ≡ first_line s
+unfolding first_line
+no-digits s stop e d h = rw (is_malformed (take 16 s) (rw h at d))
 
-no-newline : (s : List ℕ) (stop : ℕ) → (get_or s stop 0 ≡ newline → ⊥) → stop ≡ 16 → Other ≡ firstLine s
-unfolding firstLine
-no-newline s stop n h = rw (ne_eqb (get_or s 16 0) newline (rw h at n)) (go (sixteenDigits (take 16 s)))
+no-newline : (s : List ℕ) (stop : ℕ) → (get_or s stop 0 ≡ newline → ⊥) → stop ≡ 16 → Other ≡ first_line s
+unfolding first_line
+no-newline s stop n h = rw (ne_eqb (get_or s 16 0) newline (rw h at n)) (go (sixteen_digits (take 16 s)))
   where
-    go : (d : Bool) → Other ≡ cond (d && false) (Frame (verdictOf (take 16 s))) Other
+    go : (d : Bool) → Other ≡ cond (d && false) (Frame (verdict_of (take 16 s))) Other
     go true = refl
     go false = refl
 
-too_short : (s : List ℕ) → length s ≤ 16 → Other ≡ firstLine s
+too_short : (s : List ℕ) → length s ≤ 16 → Other ≡ first_line s
 too_short s h = no-newline s 16 (λ e. omega (arith, get_or-eq_default s 0 {n = 16} h)) refl
 
 shared-slice-read-if2 : tie.Need-shared-slice-read-if2

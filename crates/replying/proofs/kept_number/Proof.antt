@@ -6,8 +6,8 @@ use native.Mathlib.Omega.{arith}
 use lib.ListN.{length}
 use lib.Seq.{length-take-le}
 use borrow.Author.Rules.{rules}
-use Rattle.verdicts.specs.Verdict.{verdictOf}
-use Rattle.carrying.proofs.Kept.{kept-bytes}
+use Rattle.verdicts.specs.Verdict.{verdict_of}
+use Rattle.carrying.proofs.Kept.{kept_bytes}
 use Rattle.replying.proofs.kept_number.Statement.{statement}
 use Rattle.replying.proofs.kept_number.Tie as tie
 
@@ -35,7 +35,7 @@ returns c =
     let j = c.before.before.before in
     let u = j.before.before.args.line in
     let e : length u.bytes ≡ 17 = search rules in
-    c.number.ensures ∙ c.before.judge-line.ensures ∙ ap verdictOf (kept-bytes u j.if1.n e (bound j))
+    c.number.ensures ∙ c.before.judge-line.ensures ∙ ap verdict_of (kept_bytes u j.if1.n e (bound j))
 
 pub kept-number-spec : {M : Type 1} → statement M
 kept-number-spec =

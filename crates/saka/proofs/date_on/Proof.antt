@@ -7,12 +7,12 @@ use lib.IntN.{pos, negsuc}
 use borrow.Author.Tests.{eqb-true, eqb-false}
 use Rattle.counting.specs.Answers.{years}
 use Rattle.calendar_rules.specs.Calendars.{saka}
-use Rattle.months.specs.BahaiSaka.{sakaBefore, sakaOf}
-use Rattle.months.proofs.Gregorian.{year-small}
-use Rattle.months.proofs.Dates.{early-place, later-place}
-use Rattle.months.proofs.LeapLast.{date-in}
-use Rattle.months.proofs.GregorianKind.{kind-date}
-use Rattle.months.proofs.BahaiSaka.{saka-kind, saka-from-2, saka-room}
+use Rattle.months.specs.BahaiSaka.{saka_before, saka_of}
+use Rattle.months.proofs.Gregorian.{year_small}
+use Rattle.months.proofs.Dates.{early_place, later_place}
+use Rattle.months.proofs.LeapLast.{date_in}
+use Rattle.months.proofs.GregorianKind.{kind_date}
+use Rattle.months.proofs.BahaiSaka.{saka_kind, saka_from_2, saka_room}
 use borrow.Author.Rules.{rules}
 use Rattle.saka.proofs.date_on.Statement.{statement}
 use Rattle.saka.proofs.date_on.Tie as tie
@@ -21,7 +21,7 @@ nowhere-requires : tie.Need-nowhere-requires
 nowhere-requires c κs = search rules
 
 returns : tie.Need-returns
-returns c = early-place (years saka) (pos 1) 1749995 c.before.before.args.day _ _ _ (omega arith) c.nowhere.ensures
+returns c = early_place (years saka) (pos 1) 1749995 c.before.before.args.day _ _ _ (omega arith) c.nowhere.ensures
 
 year-of-requires : tie.Need-year-of-requires
 year-of-requires c κs = search rules
@@ -42,7 +42,7 @@ pick-requires : tie.Need-pick-requires
 pick-requires c κs = search rules
 
 sub-q : tie.Need-overflow-sub-q
-sub-q c = rw c.pick.ensures.0 (saka-from-2 c.before.year-of.result.rest)
+sub-q c = rw c.pick.ensures.0 (saka_from_2 c.before.year_of_lem.result.rest)
 
 pick-requires-2 : tie.Need-pick-requires-2
 pick-requires-2 c κs = search rules
@@ -57,7 +57,7 @@ sub-d : tie.Need-overflow-sub-d
 sub-d c =
     let q = c.before in
     let y = q.before in
-    let r = rw (← q.pick.ensures.0) at (saka-room y.year-of.result.rest (omega (arith, (year-small y.year-of.ensures).1))) in
+    let r = rw (← q.pick.ensures.0) at (saka_room y.year_of_lem.result.rest (omega (arith, (year_small y.year_of_lem.ensures).1))) in
     omega (arith, c.pick2.ensures.0, r.1)
 
 add-d-2 : tie.Need-overflow-add-d-2
@@ -91,10 +91,10 @@ returns-2 c =
     let day = y.before.before.args.day in
     let p = c.IsPlace-in.ensures in
     let p' = q.pick.result / 1024 - 2 in
-    let r = rw (← q.pick.ensures.0) at (saka-room y.year-of.result.rest (omega (arith, (year-small y.year-of.ensures).1))) in
-    later-place (years saka) (pos 1) 1749995 day _ _ _ (omega arith)
-    (kind-date saka-kind (negsuc 4877) refl day _ _ _ _ _ (omega arith) y.year-of.ensures
-    (date-in 12 sakaBefore sakaOf (negsuc 4877) 11 _ y.year-of.result.rest p' (eqb p' 11) 1 (p' + 2) _ _ _ (rw q.pick.ensures.0 refl)
+    let r = rw (← q.pick.ensures.0) at (saka_room y.year_of_lem.result.rest (omega (arith, (year_small y.year_of_lem.ensures).1))) in
+    later_place (years saka) (pos 1) 1749995 day _ _ _ (omega arith)
+    (kind_date saka_kind (negsuc 4877) refl day _ _ _ _ _ (omega arith) y.year_of_lem.ensures
+    (date_in 12 saka_before saka_of (negsuc 4877) 11 _ y.year_of_lem.result.rest p' (eqb p' 11) 1 (p' + 2) _ _ _ (rw q.pick.ensures.0 refl)
     (λ t. omega (arith, eqb-true p' 11 t)) (λ t. omega (arith, eqb-false p' 11 t, r.0))
     (rw w.pick3.ensures.0 at p.0) (rw m.pick4.ensures.0 at p.1) (rw e.pick2.ensures.0 at p.2)))
 

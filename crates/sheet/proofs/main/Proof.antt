@@ -1,7 +1,7 @@
 -- `sheet::main` is safe: what the end of the input adds lies within its three bytes.
 use mathlib.Core.Path.{sym}
 use lib.Seq.{length-take-le}
-use Rattle.judging.proofs.Piece.{finished-within}
+use Rattle.judging.proofs.Piece.{finished_within}
 use borrow.Author.Rules.{rules}
 use Rattle.sheet.proofs.main.Statement.{statement}
 use Rattle.sheet.proofs.main.Tie as tie
@@ -22,10 +22,10 @@ slice-aggregate-write : tie.Need-slice-aggregate-write
 slice-aggregate-write c = search rules
 
 array-share-prefix-bytes : tie.Need-array-share-prefix-bytes
-array-share-prefix-bytes c = finished-within _ _ c.before.before.finish.ensures
+array-share-prefix-bytes c = finished_within _ _ c.before.before.finish.ensures
 
 slice-aggregate-write-2 : tie.Need-slice-aggregate-write-2
-slice-aggregate-write-2 c = sym (length-take-le _ _ (finished-within _ _ c.before.before.before.finish.ensures))
+slice-aggregate-write-2 c = sym (length-take-le _ _ (finished_within _ _ c.before.before.before.finish.ensures))
 
 write-requires : tie.Need-write-requires
 write-requires c κs = search rules

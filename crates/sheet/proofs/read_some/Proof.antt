@@ -1,7 +1,7 @@
 -- `sheet::read_some` is safe: what was written lies within the output.
 use mathlib.Core.Path.{sym}
 use lib.Seq.{length-take-le}
-use Rattle.judging.proofs.Piece.{written-within}
+use Rattle.judging.proofs.Piece.{written_within}
 use borrow.Author.Rules.{rules}
 use Rattle.sheet.proofs.read_some.Statement.{statement}
 use Rattle.sheet.proofs.read_some.Tie as tie
@@ -40,10 +40,10 @@ slice-aggregate-write : tie.Need-slice-aggregate-write
 slice-aggregate-write c = search rules
 
 slice-reshare-prefix-write : tie.Need-slice-reshare-prefix-write
-slice-reshare-prefix-write c = written-within c.before.before.before.before.judge.ensures
+slice-reshare-prefix-write c = written_within c.before.before.before.before.judge.ensures
 
 slice-aggregate-write-2 : tie.Need-slice-aggregate-write-2
-slice-aggregate-write-2 c = sym (length-take-le _ _ (written-within c.before.before.before.before.before.judge.ensures))
+slice-aggregate-write-2 c = sym (length-take-le _ _ (written_within c.before.before.before.before.before.judge.ensures))
 
 write-requires : tie.Need-write-requires
 write-requires c κs = search rules

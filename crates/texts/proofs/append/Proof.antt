@@ -7,7 +7,7 @@ use lib.ListN.{length, take}
 use lib.Seq.{take_all}
 use borrow.Author.Rules.{rules}
 use Rattle.texts.specs.Writing.{Writes}
-use Rattle.texts.proofs.Writing.{nothing, so_far, next-byte, keeps-length}
+use Rattle.texts.proofs.Writing.{nothing, so_far, next_byte, keeps_length}
 use Rattle.texts.proofs.append.Statement.{statement}
 use Rattle.texts.proofs.append.Tie as tie
 
@@ -42,10 +42,10 @@ loop-again c =
     let s = c.before.before in
     let l = s.before.before.before.before.loop in
     let text = s.before.before.before.before.before.before.before.before.args.text.now in
-    (omega arith, so_far l.invariant.1 _ _ (next-byte text l.k (omega arith)) s.append-byte.ensures)
+    (omega arith, so_far l.invariant.1 _ _ (next_byte text l.k (omega arith)) s.append-byte.ensures)
 
 same_length : tie.Need-same-length invariant-loop decreases-loop
-same_length c = keeps-length c.before.loop.invariant.1
+same_length c = keeps_length c.before.loop.invariant.1
 
 returns : tie.Need-returns invariant-loop decreases-loop
 returns c =

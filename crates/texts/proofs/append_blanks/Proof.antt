@@ -7,7 +7,7 @@ use native.Mathlib.Numerals.{add-one}
 use borrow.Author.Rules.{rules}
 use Rattle.texts.specs.Writing.{Writes}
 use Rattle.texts.specs.Columns.{blanks}
-use Rattle.texts.proofs.Writing.{nothing, so_far, keeps-length}
+use Rattle.texts.proofs.Writing.{nothing, so_far, keeps_length}
 use Rattle.texts.proofs.append_blanks.Statement.{statement}
 use Rattle.texts.proofs.append_blanks.Tie as tie
 
@@ -46,7 +46,7 @@ loop-again c =
     (omega arith, so_far l.invariant.1 _ _ (next-blank l.k) s.append-byte.ensures)
 
 same_length : tie.Need-same-length invariant-loop decreases-loop
-same_length c = keeps-length c.before.loop.invariant.1
+same_length c = keeps_length c.before.loop.invariant.1
 
 returns : tie.Need-returns invariant-loop decreases-loop
 returns c =

@@ -1,7 +1,7 @@
 -- `texts::append_left` meets its contract: the text, and then blanks.
 use Prim.Native.Nat.{◌-◌}
 use borrow.Author.Rules.{rules}
-use Rattle.texts.specs.Columns.{leftIn}
+use Rattle.texts.specs.Columns.{left_in}
 use Rattle.texts.proofs.Writing.{then}
 use Rattle.texts.proofs.append_left.Statement.{statement}
 use Rattle.texts.proofs.append_left.Tie as tie
@@ -19,7 +19,7 @@ same_length : tie.Need-same-length
 same_length c = search rules
 
 returns : tie.Need-returns
-unfolding leftIn
+unfolding left_in
 returns c =
     let n = c.before.before.before.before.left.ensures in
     let w = rw n at c.before.before.append-blanks.ensures in

@@ -1,6 +1,6 @@
 -- `texts::append_right` meets its contract: blanks, and then the text.
 use borrow.Author.Rules.{rules}
-use Rattle.texts.specs.Columns.{rightIn}
+use Rattle.texts.specs.Columns.{right_in}
 use Rattle.texts.proofs.Writing.{then}
 use Rattle.texts.proofs.append_right.Statement.{statement}
 use Rattle.texts.proofs.append_right.Tie as tie
@@ -18,7 +18,7 @@ same_length : tie.Need-same-length
 same_length c = search rules
 
 returns : tie.Need-returns
-unfolding rightIn
+unfolding right_in
 returns c =
     let b = c.before.before.before.before.before.before in
     let n = b.before.before.left.ensures in

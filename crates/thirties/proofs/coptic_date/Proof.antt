@@ -3,9 +3,9 @@ use Prim.Native.Nat.{◌-◌}
 use native.Mathlib.Omega.{arith}
 use lib.IntN.{pos}
 use Rattle.counting.specs.Answers.{years}
-use Rattle.months.specs.Parts.{copticFrom}
-use Rattle.months.proofs.Dates.{early-place, later-place}
-use Rattle.months.proofs.Thirties.{coptic-date}
+use Rattle.months.specs.Parts.{coptic_from}
+use Rattle.months.proofs.Dates.{early_place, later_place}
+use Rattle.months.proofs.Thirties.{coptic_date}
 use borrow.Author.Rules.{rules}
 use Rattle.thirties.proofs.coptic_date.Statement.{statement}
 use Rattle.thirties.proofs.coptic_date.Tie as tie
@@ -17,7 +17,7 @@ returns : tie.Need-returns
 returns c =
     let s = c.before.before in
     let f = s.args.first in
-    early-place (years (copticFrom f)) (pos 1) f s.args.day _ _ _ (omega arith) c.nowhere.ensures
+    early_place (years (coptic_from f)) (pos 1) f s.args.day _ _ _ (omega arith) c.nowhere.ensures
 
 cast_t : tie.Need-overflow-cast-t
 cast_t c = search rules
@@ -45,7 +45,7 @@ returns-2 c =
     let s = c.before.before in
     let f = s.args.first in
     let p = c.IsPlace-in.ensures in
-    later-place (years (copticFrom f)) (pos 1) f s.args.day _ _ _ (omega arith) (coptic-date f (s.args.day - f) _ _ _ p.0 p.1 p.2)
+    later_place (years (coptic_from f)) (pos 1) f s.args.day _ _ _ (omega arith) (coptic_date f (s.args.day - f) _ _ _ p.0 p.1 p.2)
 
 pub coptic-date-spec : {M : Type 1} → statement M
 coptic-date-spec =

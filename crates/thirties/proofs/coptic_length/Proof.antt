@@ -2,17 +2,17 @@
 use Prim.Native.Nat.{◌+◌}
 use native.Mathlib.Omega.{arith}
 use Rattle.counting.specs.Answers.{years}
-use Rattle.months.specs.Leap.{fourthLeap}
-use Rattle.months.specs.Parts.{copticFrom}
-use Rattle.months.proofs.Years.{by-fours, one_more}
+use Rattle.months.specs.Leap.{fourth_leap}
+use Rattle.months.specs.Parts.{coptic_from}
+use Rattle.months.proofs.Years.{by_fours, one_more}
 use Rattle.months.proofs.Dates.{no_length}
-use Rattle.months.proofs.Thirties.{coptic-positions, coptic-length}
+use Rattle.months.proofs.Thirties.{coptic_positions, coptic_length}
 use borrow.Author.Rules.{rules}
 use Rattle.thirties.proofs.coptic_length.Statement.{statement}
 use Rattle.thirties.proofs.coptic_length.Tie as tie
 
 returns : tie.Need-returns
-returns c = λ first. let s = c.before in no_length (years (copticFrom first)) s.args.i s.args.p (omega (arith, coptic-positions first s.args.i))
+returns c = λ first. let s = c.before in no_length (years (coptic_from first)) s.args.i s.args.p (omega (arith, coptic_positions first s.args.i))
 
 add-last : tie.Need-overflow-add-last
 add-last c = search rules
@@ -29,7 +29,7 @@ pick-requires c κs = search rules
 returns-2 : tie.Need-returns-2
 returns-2 c =
     λ first. let s = c.before.before in
-    rw (c.pick.ensures.0, by-fours (s.args.i + 1), one_more (fourthLeap 1 s.args.i) 5) (coptic-length first s.args.i s.args.p (omega arith))
+    rw (c.pick.ensures.0, by_fours (s.args.i + 1), one_more (fourth_leap 1 s.args.i) 5) (coptic_length first s.args.i s.args.p (omega arith))
 
 pub coptic-length-spec : {M : Type 1} → statement M
 coptic-length-spec =

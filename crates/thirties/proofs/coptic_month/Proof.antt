@@ -1,9 +1,9 @@
 -- `thirties::coptic_month` meets its contract.
 use native.Mathlib.Omega.{arith}
 use Rattle.counting.specs.Answers.{years}
-use Rattle.months.specs.Parts.{copticFrom}
-use Rattle.months.proofs.Dates.{no-month}
-use Rattle.months.proofs.Thirties.{coptic-positions, coptic-month}
+use Rattle.months.specs.Parts.{coptic_from}
+use Rattle.months.proofs.Dates.{no_month_lem}
+use Rattle.months.proofs.Thirties.{coptic_positions, coptic_month}
 use borrow.Author.Rules.{rules}
 use Rattle.thirties.proofs.coptic_month.Statement.{statement}
 use Rattle.thirties.proofs.coptic_month.Tie as tie
@@ -12,7 +12,7 @@ returns : tie.Need-returns
 returns c =
     let s = c.before in
     let f = s.args.first in
-    no-month (years (copticFrom f)) f s.args.i s.args.p 0 (omega (arith, coptic-positions f s.args.i))
+    no_month_lem (years (coptic_from f)) f s.args.i s.args.p 0 (omega (arith, coptic_positions f s.args.i))
 
 mul-t7 : tie.Need-overflow-mul-t7
 mul-t7 c = search rules
@@ -33,7 +33,7 @@ coptic-length-requires : tie.Need-coptic-length-requires
 coptic-length-requires c κs = search rules
 
 returns-2 : tie.Need-returns-2
-returns-2 c = let s = c.before.before in coptic-month s.args.first s.args.i s.args.p _ (omega arith) (c.coptic-length.ensures s.args.first)
+returns-2 c = let s = c.before.before in coptic_month s.args.first s.args.i s.args.p _ (omega arith) (c.coptic_length.ensures s.args.first)
 
 pub coptic-month-spec : {M : Type 1} → statement M
 coptic-month-spec =

@@ -4,8 +4,8 @@ use native.Mathlib.Omega.{arith}
 use lib.IntN.{pos}
 use Rattle.counting.specs.Answers.{years}
 use Rattle.calendar_rules.specs.Calendars.{persian}
-use Rattle.months.proofs.Dates.{early-place, later-place}
-use Rattle.months.proofs.Tested.{persian-date}
+use Rattle.months.proofs.Dates.{early_place, later_place}
+use Rattle.months.proofs.Tested.{persian_date}
 use borrow.Author.Rules.{rules}
 use Rattle.thirties.proofs.persian_date.Statement.{statement}
 use Rattle.thirties.proofs.persian_date.Tie as tie
@@ -14,7 +14,7 @@ nowhere-requires : tie.Need-nowhere-requires
 nowhere-requires c κs = search rules
 
 returns : tie.Need-returns
-returns c = early-place (years persian) (pos 1) 1952063 c.before.before.args.day _ _ _ (omega arith) c.nowhere.ensures
+returns c = early_place (years persian) (pos 1) 1952063 c.before.before.args.day _ _ _ (omega arith) c.nowhere.ensures
 
 cast-left : tie.Need-overflow-cast-left
 cast-left c = search rules
@@ -39,8 +39,8 @@ returns-2 c =
     let s = c.before.before.before in
     let q = c.before.pick.ensures.0 in
     let p = c.IsPlace-in.ensures in
-    later-place (years persian) (pos 1) 1952063 s.args.day _ _ _ (omega arith)
-    (persian-date (s.args.day - 1952063) _ _ _ p.0 (rw q at p.1) (rw q at p.2))
+    later_place (years persian) (pos 1) 1952063 s.args.day _ _ _ (omega arith)
+    (persian_date (s.args.day - 1952063) _ _ _ p.0 (rw q at p.1) (rw q at p.2))
 
 pub persian-date-spec : {M : Type 1} → statement M
 persian-date-spec =

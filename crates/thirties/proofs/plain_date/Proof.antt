@@ -3,9 +3,9 @@ use Prim.Native.Nat.{◌-◌}
 use native.Mathlib.Omega.{arith}
 use lib.IntN.{pos}
 use Rattle.counting.specs.Answers.{years}
-use Rattle.months.specs.Parts.{plainFrom}
-use Rattle.months.proofs.Dates.{early-place, later-place}
-use Rattle.months.proofs.Thirties.{plain-date}
+use Rattle.months.specs.Parts.{plain_from}
+use Rattle.months.proofs.Dates.{early_place, later_place}
+use Rattle.months.proofs.Thirties.{plain_date}
 use borrow.Author.Rules.{rules}
 use Rattle.thirties.proofs.plain_date.Statement.{statement}
 use Rattle.thirties.proofs.plain_date.Tie as tie
@@ -17,7 +17,7 @@ returns : tie.Need-returns
 returns c =
     let s = c.before.before in
     let f = s.args.first in
-    early-place (years (plainFrom f)) (pos 1) f s.args.day _ _ _ (omega arith) c.nowhere.ensures
+    early_place (years (plain_from f)) (pos 1) f s.args.day _ _ _ (omega arith) c.nowhere.ensures
 
 cast-rest : tie.Need-overflow-cast-rest
 cast-rest c = search rules
@@ -36,7 +36,7 @@ returns-2 c =
     let s = c.before.before in
     let f = s.args.first in
     let p = c.IsPlace-in.ensures in
-    later-place (years (plainFrom f)) (pos 1) f s.args.day _ _ _ (omega arith) (plain-date f (s.args.day - f) _ _ _ p.0 p.1 p.2)
+    later_place (years (plain_from f)) (pos 1) f s.args.day _ _ _ (omega arith) (plain_date f (s.args.day - f) _ _ _ p.0 p.1 p.2)
 
 pub plain-date-spec : {M : Type 1} → statement M
 plain-date-spec =

@@ -6,31 +6,31 @@ use Prim.Native.Nat.{ℕ, ◌*◌, ◌^◌, ◌≤◌, ◌<◌}
 use native.Mathlib.Omega.{arith}
 use lib.Dec.{eqb, ltb}
 use borrow.Author.Tests.{lt-ltb, le-ltb, eq-eqb, ne_eqb}
-use Rattle.counting.specs.Answers.{weekdayOf, FitsDay}
-use Rattle.asking.specs.Steps.{packedTried}
+use Rattle.counting.specs.Answers.{weekday_of, FitsDay}
+use Rattle.asking.specs.Steps.{packed_tried}
 use borrow.Author.Rules.{rules}
 use Rattle.weekdays.proofs.tried.Statement.{statement}
 use Rattle.weekdays.proofs.tried.Tie as tie
 
 -- a weekday that fits, and any on a refusal, leaves the answer
-fits : (r w : ℕ) → FitsDay w r → packedTried w r ≡ r
+fits : (r w : ℕ) → FitsDay w r → packed_tried w r ≡ r
 fits r w (inl e) = rw (eq-eqb w 0 e) (go (ltb r 4294967296))
   where
     go : (t : Bool) → cond (t && false) (13 * 2 ^ 32) r ≡ r
     go true = refl
     go false = refl
-fits r w (inr e) = rw (eq-eqb w (weekdayOf r) e) (go (ltb r 4294967296) (eqb w 0))
+fits r w (inr e) = rw (eq-eqb w (weekday_of r) e) (go (ltb r 4294967296) (eqb w 0))
   where
     go : (t u : Bool) → cond (t && not (u || true)) (13 * 2 ^ 32) r ≡ r
     go true true = refl
     go true false = refl
     go false u = refl
 
-refused : (r w : ℕ) → 4294967296 ≤ r → packedTried w r ≡ r
+refused : (r w : ℕ) → 4294967296 ≤ r → packed_tried w r ≡ r
 refused r w h = rw (le-ltb r 4294967296 h) refl
 
-wrong : (r w : ℕ) → r < 4294967296 → ¬ (w ≡ 0) → ¬ (w ≡ weekdayOf r) → packedTried w r ≡ 13 * 2 ^ 32
-wrong r w h n m = rw (lt-ltb r 4294967296 h, ne_eqb w 0 n, ne_eqb w (weekdayOf r) m) refl
+wrong : (r w : ℕ) → r < 4294967296 → ¬ (w ≡ 0) → ¬ (w ≡ weekday_of r) → packed_tried w r ≡ 13 * 2 ^ 32
+wrong r w h n m = rw (lt-ltb r 4294967296 h, ne_eqb w 0 n, ne_eqb w (weekday_of r) m) refl
 
 returns : tie.Need-returns
 returns c = let s = c.before in sym (fits s.args.r s.args.weekday (inl (omega (arith, c.if1.true))))

@@ -3,9 +3,9 @@ use mathlib.Core.Path.{refl, ◌∙◌}
 use Prim.Native.Nat.{ℕ}
 use borrow.Author.Rules.{rules}
 use Rattle.words.specs.Text.{bytes, lower}
-use Rattle.words.specs.Names.{calendarNames, name_of}
-use Rattle.words.specs.Words.{smallLetter, packedFrom}
-use Rattle.words.proofs.Tables.{packedTable, found}
+use Rattle.words.specs.Names.{calendar_names, name_of}
+use Rattle.words.specs.Words.{small_letter, packed_from}
+use Rattle.words.proofs.Tables.{packed_table, found}
 use Rattle.words.proofs.calendar.Statement.{statement}
 use Rattle.words.proofs.calendar.Tie as tie
 
@@ -16,8 +16,8 @@ find-requires : tie.Need-find-requires
 find-requires c κs = search rules
 
 returns : tie.Need-returns
-unfolding calendarNames name_of bytes lower smallLetter packedFrom
-returns c = c.find.ensures ∙ found (λ (k : ℕ). k) (packedTable calendarNames 1 18) calendarNames refl refl refl _
+unfolding calendar_names name_of bytes lower small_letter packed_from
+returns c = c.find.ensures ∙ found (λ (k : ℕ). k) (packed_table calendar_names 1 18) calendar_names refl refl refl _
 
 pub calendar-spec : {M : Type 1} → statement M
 calendar-spec = tie.close (tie.spec slice-aggregate-find find-requires returns)

@@ -4,10 +4,10 @@ use lib.ListN.{drop}
 use borrow.Author.Rules.{rules}
 use Rattle.basics.specs.Every.{every}
 use Rattle.words.specs.Text.{bytes, lower, same}
-use Rattle.words.specs.Names.{calendarNames, name_of}
-use Rattle.words.specs.Words.{smallLetter, packedFrom}
-use Rattle.words.specs.Inner.{lettersIn}
-use Rattle.words.proofs.Tables.{all_rows, packedTable, name-written}
+use Rattle.words.specs.Names.{calendar_names, name_of}
+use Rattle.words.specs.Words.{small_letter, packed_from}
+use Rattle.words.specs.Inner.{letters_in}
+use Rattle.words.proofs.Tables.{all_rows, packed_table, name_written}
 use Rattle.words.proofs.calendar_name.Statement.{statement}
 use Rattle.words.proofs.calendar_name.Tie as tie
 
@@ -18,10 +18,10 @@ write-at-requires : tie.Need-write-at-requires
 write-at-requires c κs = search rules
 
 returns : tie.Need-returns
-unfolding every all_rows calendarNames name_of bytes lower smallLetter packedFrom same lettersIn
+unfolding every all_rows calendar_names name_of bytes lower small_letter packed_from same letters_in
 returns c =
     let a = c.before.before.before.args in
-    name-written (packedTable calendarNames 0 19) calendarNames refl refl a.calendar (drop c.write-at.result a.out.now) c.write-at.ensures.0 c.write-at.ensures.1
+    name_written (packed_table calendar_names 0 19) calendar_names refl refl a.calendar (drop c.write-at.result a.out.now) c.write-at.ensures.0 c.write-at.ensures.1
 
 pub calendar-name-spec : {M : Type 1} → statement M
 calendar-name-spec = tie.close (tie.spec slice-aggregate-write-at write-at-requires returns)

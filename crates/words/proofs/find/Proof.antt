@@ -10,19 +10,19 @@ use lib.ListN.{length, drop, get_or, drop_of_length-le}
 use lib.Seq.{drop-cons}
 use borrow.Author.Tests.{eq-eqb, ne_eqb}
 use borrow.Author.Rules.{rules}
-use Rattle.words.specs.Inner.{placeFrom, place_of}
+use Rattle.words.specs.Inner.{place_from, place_of}
 use Rattle.words.proofs.find.Statement.{statement}
 use Rattle.words.proofs.find.Tie as tie
 
 abbrev invariant-loop : tie.invariant-loop
-invariant-loop table packed k₀ k = (k ≤ length table) × (placeFrom k (drop k table) packed ≡ placeFrom 0 table packed)
+invariant-loop table packed k₀ k = (k ≤ length table) × (place_from k (drop k table) packed ≡ place_from 0 table packed)
 
 abbrev decreases-loop : tie.decreases-loop
 decreases-loop table packed k₀ k = length table - k
 
 here : (table : List ℕ) (n k : ℕ) → k < length table
-    → placeFrom k (drop k table) n ≡ cond (eqb (get_or table k 0) n) k (placeFrom (suc k) (drop (suc k) table) n)
-unfolding placeFrom
+    → place_from k (drop k table) n ≡ cond (eqb (get_or table k 0) n) k (place_from (suc k) (drop (suc k) table) n)
+unfolding place_from
 here table n k h = rw (drop-cons table k 0 h)
 
 enum-known-word : tie.Need-enum-known-word invariant-loop decreases-loop
@@ -68,7 +68,7 @@ loop-again c =
     )
 
 returns-3 : tie.Need-returns-3 invariant-loop decreases-loop
-unfolding place_of placeFrom
+unfolding place_of place_from
 returns-3 c =
     let l = c.before.loop in
     let w = c.before.before.before in

@@ -1,7 +1,7 @@
 -- `words::is_all` meets its contract.
 use borrow.Author.Rules.{rules}
 use Rattle.words.specs.Text.{bytes, lower}
-use Rattle.words.specs.Words.{smallLetter, packedFrom}
+use Rattle.words.specs.Words.{small_letter, packed_from}
 use Rattle.words.specs.Packed.{spells}
 use Rattle.words.proofs.is_all.Statement.{statement}
 use Rattle.words.proofs.is_all.Tie as tie
@@ -13,7 +13,7 @@ enum_told : tie.Need-enum-told
 enum_told c = search rules
 
 returns : tie.Need-returns
-unfolding spells bytes lower smallLetter packedFrom
+unfolding spells bytes lower small_letter packed_from
 returns c = rw c.before.word.given.1
 
 returns-2 : tie.Need-returns-2

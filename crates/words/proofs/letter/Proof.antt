@@ -6,7 +6,7 @@ use lib.Dec.{leb}
 use borrow.Author.Tests.{leb-true, eq-eqb, ne_eqb}
 use borrow.Author.Rules.{rules}
 use Rattle.basics.proofs.Cases.{both}
-use Rattle.words.specs.Words.{smallLetter}
+use Rattle.words.specs.Words.{small_letter}
 use Rattle.words.proofs.letter.Statement.{statement}
 use Rattle.words.proofs.letter.Tie as tie
 
@@ -17,7 +17,7 @@ sub-result : tie.Need-overflow-sub-result
 sub-result c = let b = c.before.lower-case.result in omega (arith, leb-true 97 b (both (leb 97 b) (leb b 122) c.if1.true).0)
 
 returns : tie.Need-returns
-unfolding smallLetter
+unfolding small_letter
 returns c =
     let b = c.before.lower-case.result in
     let t : (leb 97 b && leb b 122) ≡ true = c.if1.true in
@@ -28,13 +28,13 @@ no-letter : (c : tie.Else1) → (leb 97 c.before.lower-case.result && leb c.befo
 no-letter c = c.if1.false
 
 returns-2 : tie.Need-returns-2
-unfolding smallLetter
+unfolding small_letter
 returns-2 c =
     let a = c.before.before in
     rw (← a.lower-case.ensures, no-letter c.before, eq-eqb a.lower-case.result 45 (omega (arith, c.if2.true)))
 
 returns-3 : tie.Need-returns-3
-unfolding smallLetter
+unfolding small_letter
 returns-3 c =
     let a = c.before.before in
     rw (← a.lower-case.ensures, no-letter c.before, ne_eqb a.lower-case.result 45 (λ e. c.if2.false (omega arith)))

@@ -3,9 +3,9 @@ use mathlib.Core.Path.{refl, ◌∙◌}
 use Prim.Native.Nat.{ℕ}
 use borrow.Author.Rules.{rules}
 use Rattle.words.specs.Text.{bytes, lower}
-use Rattle.words.specs.Names.{weekdayNames, name_of}
-use Rattle.words.specs.Words.{smallLetter, packedFrom}
-use Rattle.words.proofs.Tables.{packedTable, found}
+use Rattle.words.specs.Names.{weekday_names, name_of}
+use Rattle.words.specs.Words.{small_letter, packed_from}
+use Rattle.words.proofs.Tables.{packed_table, found}
 use Rattle.words.proofs.weekday.Statement.{statement}
 use Rattle.words.proofs.weekday.Tie as tie
 
@@ -16,8 +16,8 @@ find-requires : tie.Need-find-requires
 find-requires c κs = search rules
 
 returns : tie.Need-returns
-unfolding weekdayNames name_of bytes lower smallLetter packedFrom
-returns c = c.find.ensures ∙ found (λ (k : ℕ). k) (packedTable weekdayNames 1 7) weekdayNames refl refl refl _
+unfolding weekday_names name_of bytes lower small_letter packed_from
+returns c = c.find.ensures ∙ found (λ (k : ℕ). k) (packed_table weekday_names 1 7) weekday_names refl refl refl _
 
 pub weekday-spec : {M : Type 1} → statement M
 weekday-spec = tie.close (tie.spec slice-aggregate-find find-requires returns)

@@ -7,7 +7,7 @@ use native.Mathlib.Numerals.{add-one}
 use lib.ListN.{length, drop, set, get_or, length-append, length-drop}
 use lib.Seq.{append_snoc, drop-cons, set_at}
 use borrow.Author.Tests.{ne_eqb}
-use Rattle.words.specs.Inner.{letterByte, lettersIn}
+use Rattle.words.specs.Inner.{letter_byte, letters_in}
 use Rattle.words.proofs.write.Statement.{statement}
 use Rattle.words.proofs.write.Tie as tie
 
@@ -16,7 +16,7 @@ record Written (packed : ℕ) (entry out : List ℕ) (at k : ℕ) : Type 0 where
   most : at + k ≤ 12
   done : List ℕ
   count : at ≡ length done
-  all : done ++ lettersIn k packed ≡ lettersIn 12 packed
+  all : done ++ letters_in k packed ≡ letters_in 12 packed
   holds : out ≡ done ++ drop at entry
 
 -- the buffer keeps its length
@@ -24,19 +24,19 @@ long : {packed : ℕ} {entry out : List ℕ} {at k : ℕ} → Written packed ent
 long {packed} {entry} {out} {at} {k} w =
     ap length w.holds ∙ length-append w.done (drop at entry) ∙ omega (arith, length-drop at entry, w.count, w.most, w.size)
 
-abbrev letterAt : ℕ → ℕ → ℕ
-letterAt packed k = packed / 2 ^ (5 * k) % 32
+abbrev letter_at : ℕ → ℕ → ℕ
+letter_at packed k = packed / 2 ^ (5 * k) % 32
 
-none : (packed k : ℕ) → letterAt packed k ≡ 0 → lettersIn (suc k) packed ≡ lettersIn k packed
-unfolding lettersIn
+none : (packed k : ℕ) → letter_at packed k ≡ 0 → letters_in (suc k) packed ≡ letters_in k packed
+unfolding letters_in
 none packed k e = rw e
 
-one : (packed k : ℕ) → 0 < letterAt packed k → lettersIn (suc k) packed ≡ letterByte (letterAt packed k) ∷ lettersIn k packed
-unfolding lettersIn
-one packed k h = rw (ne_eqb (letterAt packed k) 0 (λ e. omega arith))
+one : (packed k : ℕ) → 0 < letter_at packed k → letters_in (suc k) packed ≡ letter_byte (letter_at packed k) ∷ letters_in k packed
+unfolding letters_in
+one packed k h = rw (ne_eqb (letter_at packed k) 0 (λ e. omega arith))
 
 -- a place without a letter
-skip : {packed : ℕ} {entry out : List ℕ} {at k k' : ℕ} → Written packed entry out at k → k ≡ suc k' → letterAt packed k' ≡ 0 → Written packed entry out at k'
+skip : {packed : ℕ} {entry out : List ℕ} {at k k' : ℕ} → Written packed entry out at k → k ≡ suc k' → letter_at packed k' ≡ 0 → Written packed entry out at k'
 skip {packed} {entry} {out} {at} {k} {k'} w e z =
     record {
       size = w.size;
@@ -48,8 +48,8 @@ skip {packed} {entry} {out} {at} {k} {k'} w e z =
     }
 
 -- a letter more
-next : {packed : ℕ} {entry out : List ℕ} {at at' k k' b : ℕ} → Written packed entry out at k → k ≡ suc k' → 0 < letterAt packed k'
-    → b ≡ letterByte (letterAt packed k') → at' ≡ at + 1 → Written packed entry (set out at b) at' k'
+next : {packed : ℕ} {entry out : List ℕ} {at at' k k' b : ℕ} → Written packed entry out at k → k ≡ suc k' → 0 < letter_at packed k'
+    → b ≡ letter_byte (letter_at packed k') → at' ≡ at + 1 → Written packed entry (set out at b) at' k'
 next {packed} {entry} {out} {at} {at'} {k} {k'} {b} w e l f g =
     let h : at < length entry = omega (arith, w.most, w.size) in
     rw (g, add-one)
@@ -58,7 +58,7 @@ next {packed} {entry} {out} {at} {at'} {k} {k'} {b} w e l f g =
       most = omega (arith, w.most);
       done = w.done ++ b ∷ [];
       count = omega (arith, length-append w.done (b ∷ []), w.count);
-      all = append_snoc w.done b (lettersIn k' packed) ∙ rw f (rw (e, one packed k' l) at w.all);
+      all = append_snoc w.done b (letters_in k' packed) ∙ rw f (rw (e, one packed k' l) at w.all);
       holds =
           ap (λ (x : List ℕ). set x at b) (w.holds ∙ ap (λ (x : List ℕ). w.done ++ x) (drop-cons entry at 0 h))
           ∙ set_at w.done (get_or entry at 0) (drop (suc at) entry) b at (sym w.count)
@@ -110,11 +110,11 @@ same_length : tie.Need-same-length invariant-loop decreases-loop
 same_length c = long c.before.loop.invariant
 
 returns : tie.Need-returns invariant-loop decreases-loop
-unfolding lettersIn
+unfolding letters_in
 returns c =
     let l = c.before.loop in
     let k : l.k ≡ 0 = omega arith in
-    let a : l.invariant.done ≡ lettersIn 12 c.before.before.before.args.packed = sym (append-nil l.invariant.done) ∙ rw k at l.invariant.all in
+    let a : l.invariant.done ≡ letters_in 12 c.before.before.before.args.packed = sym (append-nil l.invariant.done) ∙ rw k at l.invariant.all in
     (l.invariant.count ∙ ap length a, l.invariant.holds ∙ ap (λ (x : List ℕ). x ++ drop l.at c.before.before.before.args.out.now) a)
 
 pub write_spec : {M : Type 1} → statement M

@@ -5,7 +5,7 @@ use Prim.Native.Nat.{ℕ}
 use native.Mathlib.Omega.{arith}
 use lib.ListN.{length, get_or}
 use borrow.Author.Rules.{rules}
-use Rattle.words.specs.Inner.{lettersIn}
+use Rattle.words.specs.Inner.{letters_in}
 use Rattle.words.proofs.Tables.{past}
 use Rattle.words.proofs.write_at.Statement.{statement}
 use Rattle.words.proofs.write_at.Tie as tie
@@ -28,7 +28,7 @@ returns c = search rules
 returns-2 : tie.Need-returns-2
 returns-2 c =
     let a = c.before.before.before.args in
-    let e : lettersIn 12 (get_or a.table.now a.place 0) ≡ [] = past a.table.now (omega arith) in
+    let e : letters_in 12 (get_or a.table.now a.place 0) ≡ [] = past a.table.now (omega arith) in
     (ap length (sym e), ap (λ (x : List ℕ). x ++ a.out.now) (sym e))
 
 pub write-at-spec : {M : Type 1} → statement M

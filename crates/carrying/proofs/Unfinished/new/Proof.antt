@@ -1,11 +1,11 @@
 -- `carrying::Unfinished::new` meets its contract.
 use mathlib.Core.Path.{refl}
-use Rattle.carrying.specs.Kept.{keptOf}
+use Rattle.carrying.specs.Kept.{kept_of}
 use Rattle.carrying.proofs.Unfinished.new.Statement.{statement}
 use Rattle.carrying.proofs.Unfinished.new.Tie as tie
 
 returns : tie.Need-returns
-unfolding keptOf
+unfolding kept_of
 returns c = refl
 
 pub new_spec : {M : Type 1} → statement M

@@ -7,8 +7,8 @@ use native.Mathlib.Numerals.{add-one, add-two}
 use lib.ListN.{set, length, take, drop, length-set}
 use lib.Seq.{sets-eq}
 use borrow.Author.Rules.{rules}
-use Rattle.hex.specs.Digits.{hexByte, writtenIn}
-use Rattle.replying.specs.Sheet.{twoDigits}
+use Rattle.hex_digits.specs.Digits.{hex_byte, written_in}
+use Rattle.replying.specs.Sheet.{two_digits}
 use Rattle.judging.proofs.lines.put.Statement.{statement}
 use Rattle.judging.proofs.lines.put.Tie as tie
 
@@ -41,12 +41,12 @@ three : (l : List ℕ) (at a b x : ℕ) → at + 3 ≤ length l → set (set (se
 three l at a b x h = rw (add-one, add-two) (sets-eq (a ∷ b ∷ x ∷ []) l at h ∙ append_assoc (take at l) (a ∷ b ∷ x ∷ []) (drop (at + 3) l))
 
 returns : tie.Need-returns
-unfolding twoDigits writtenIn
+unfolding two_digits written_in
 returns c =
     let a = c.before.before.before.args in
     record {
       buffer = rw (c.before.byte.ensures, c.byte2.ensures)
-          (three a.out.now a.at (hexByte (a.n / 16 % 16)) (hexByte (a.n % 16)) 10 (omega arith));
+          (three a.out.now a.at (hex_byte (a.n / 16 % 16)) (hex_byte (a.n % 16)) 10 (omega arith));
     }
 
 pub put_spec : {M : Type 1} → statement M

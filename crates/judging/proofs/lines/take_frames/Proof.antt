@@ -6,12 +6,12 @@ use native.Mathlib.Omega.{arith}
 use lib.ListN.{length, drop, length-drop}
 use borrow.Author.Rules.{rules}
 use Rattle.streaming.specs.Work.{WorkedFrom}
-use Rattle.streaming.proofs.Work.{none_from, then-from}
+use Rattle.streaming.proofs.Work.{none_from, then_from}
 use Rattle.carrying.specs.Kept.{most}
-use Rattle.carrying.proofs.Kept.{kept-few, none_kept}
+use Rattle.carrying.proofs.Kept.{kept_few, none_kept}
 use Rattle.replying.specs.Sheet.{judging}
 use Rattle.replying.proofs.Claims.{reads, Begins}
-use Rattle.judging.proofs.Piece.{same-buffer, room, frame_at, frame-taken}
+use Rattle.judging.proofs.Piece.{same_buffer, room, frame_at, frame_taken}
 use Rattle.judging.proofs.lines.take_frames.Statement.{statement}
 use Rattle.judging.proofs.lines.take_frames.Tie as tie
 
@@ -25,7 +25,7 @@ returns : tie.Need-returns invariant-loop decreases-loop
 returns c =
     let a = c.before.before.before.before.args in
     let e : length a.state.bytes ≡ 17 = search rules in
-    none_from judging most tt _ _ _ (omega arith) (kept-few a.state e) (omega arith)
+    none_from judging most tt _ _ _ (omega arith) (kept_few a.state e) (omega arith)
 
 loop-holds : tie.Need-loop-init invariant-loop decreases-loop
 loop-holds c = none_from judging most tt [] _ _ (omega arith) (omega arith) (omega arith)
@@ -55,7 +55,7 @@ found c =
 
 -- the buffer keeps its length
 size : (c : tie.At-loop invariant-loop decreases-loop) → length c.loop.out ≡ length c.before.before.before.before.before.args.out.now
-size c = same-buffer (omega arith) c.loop.invariant
+size c = same_buffer (omega arith) c.loop.invariant
 
 -- where the frame ends, and room for its answer
 fits : (c : tie.After-n invariant-loop decreases-loop) → let l = c.before.before.before.before in
@@ -82,8 +82,8 @@ loop-again : tie.Need-loop-preserved invariant-loop decreases-loop
 loop-again c =
     let f = c.before.before.before.before.before in
     let i = f.before.before.before.before.loop.invariant in
-    then-from judging most (omega arith) reads (omega arith) i
-    (frame-taken (omega (arith, fits f)) (found f) c.before.before.put.ensures (omega arith) (omega arith) (omega arith))
+    then_from judging most (omega arith) reads (omega arith) i
+    (frame_taken (omega (arith, fits f)) (found f) c.before.before.put.ensures (omega arith) (omega arith) (omega arith))
 
 enum_told : tie.Need-enum-told invariant-loop decreases-loop
 enum_told c = search rules

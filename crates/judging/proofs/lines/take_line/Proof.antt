@@ -4,12 +4,12 @@ use Prim.Native.Nat.{ℕ, ◌+◌, ◌<◌}
 use native.Mathlib.Omega.{arith}
 use lib.ListN.{length}
 use borrow.Author.Rules.{rules}
-use Rattle.streaming.proofs.Work.{then-from}
+use Rattle.streaming.proofs.Work.{then_from}
 use Rattle.carrying.specs.Kept.{most}
 use Rattle.replying.specs.Sheet.{judging}
 use Rattle.replying.proofs.Claims.{reads}
 use Rattle.judging.specs.Inner.{TakesFrom}
-use Rattle.judging.proofs.Piece.{line_taken, line-ends, newline-taken}
+use Rattle.judging.proofs.Piece.{line_taken, line_ends, newline_taken}
 use Rattle.judging.proofs.lines.take_line.Statement.{statement}
 use Rattle.judging.proofs.lines.take_line.Tie as tie
 
@@ -65,9 +65,9 @@ returns-2 c =
     let end = a.from + g.go_on.result.end in
     let l = line g end (omega arith) in
     let h : end < length a.input.now = omega (arith, l.within) in (
-      then-from judging most (omega arith) reads (omega arith) l
+      then_from judging most (omega arith) reads (omega arith) l
           (rw c.new.ensures
-          (newline-taken h (line-ends a.state a.input.now a.from end g.go_on.result g.go_on.ensures (omega arith) h)
+          (newline_taken h (line_ends a.state a.input.now a.from end g.go_on.result g.go_on.ensures (omega arith) h)
           n.kept-number.ensures c.before.before.before.put.ensures (omega arith) (omega arith) (omega arith))),
       omega arith,
     )

@@ -4,27 +4,27 @@ use Rattle.std.specs.Prelude.{List, [], ◌∷◌, ◌++◌, Bool, true, cond, �
 -- ---- reading
 
 -- the value of a lowercase hexadecimal digit, 0 to 15; 255 where the byte is none
-unfoldable pub digitOf : ℕ → ℕ
-digitOf b = cond (leb 48 b && leb b 57) (b - 48) (cond (leb 97 b && leb b 102) (b - 87) 255)
+unfoldable pub digit_of : ℕ → ℕ
+digit_of b = cond (leb 48 b && leb b 57) (b - 48) (cond (leb 97 b && leb b 102) (b - 87) 255)
 
-abbrev pub isDigit : ℕ → Bool
-isDigit b = ltb (digitOf b) 16
+abbrev pub is_digit : ℕ → Bool
+is_digit b = ltb (digit_of b) 16
 
-unfoldable pub allDigits : List ℕ → Bool
-allDigits [] = true
-allDigits (b ∷ s) = isDigit b && allDigits s
+unfoldable pub all_digits : List ℕ → Bool
+all_digits [] = true
+all_digits (b ∷ s) = is_digit b && all_digits s
 
 -- exactly 16 digits
-unfoldable pub sixteenDigits : List ℕ → Bool
-sixteenDigits line = eqb (length line) 16 && allDigits line
+unfoldable pub sixteen_digits : List ℕ → Bool
+sixteen_digits line = eqb (length line) 16 && all_digits line
 
 -- the number that digits write after the digits of n, high digit first
-unfoldable pub numberFrom : ℕ → List ℕ → ℕ
-numberFrom n [] = n
-numberFrom n (b ∷ s) = numberFrom (n * 16 + digitOf b) s
+unfoldable pub number_from : ℕ → List ℕ → ℕ
+number_from n [] = n
+number_from n (b ∷ s) = number_from (n * 16 + digit_of b) s
 
 abbrev pub number_in : List ℕ → ℕ
-number_in s = numberFrom 0 s
+number_in s = number_from 0 s
 
 -- the number that `count` digits write from the place `at` on
 unfoldable pub field : List ℕ → ℕ → ℕ → ℕ
@@ -33,10 +33,10 @@ field line at count = number_in (take count (drop at line))
 -- ---- writing
 
 -- the lowercase hexadecimal digit of a number below 16, as a byte
-abbrev pub hexByte : ℕ → ℕ
-hexByte n = cond (ltb n 10) (48 + n) (87 + n)
+abbrev pub hex_byte : ℕ → ℕ
+hex_byte n = cond (ltb n 10) (48 + n) (87 + n)
 
 -- the lowest `count` digits of a number, high digit first
-unfoldable pub writtenIn : ℕ → ℕ → List ℕ
-writtenIn zero n = []
-writtenIn (suc count) n = writtenIn count (n / 16) ++ hexByte (n % 16) ∷ []
+unfoldable pub written_in : ℕ → ℕ → List ℕ
+written_in zero n = []
+written_in (suc count) n = written_in count (n / 16) ++ hex_byte (n % 16) ∷ []

@@ -1,4 +1,4 @@
--- `hex::read` meets its contract. The invariant: whether the bytes passed are digits, and if so the number that they write.
+-- `hex_digits::read` meets its contract. The invariant: whether the bytes passed are digits, and if so the number that they write.
 use mathlib.Core.Path.{◌≡◌, refl, sym, ap, ◌∙◌}
 use mathlib.Core.List.{List}
 use mathlib.Core.Bool.{Bool, true, false, ◌&&◌, and-false}
@@ -10,36 +10,36 @@ use lib.Dec.{eqb}
 use lib.ListN.{length, take, get_or}
 use lib.Seq.{take_all}
 use borrow.Author.Tests.{eq-eqb, ne_eqb}
-use Rattle.hex.specs.Digits.{isDigit, allDigits, sixteenDigits, numberFrom, number_in, hexByte}
-use Rattle.hex.specs.Read.{digitsOf}
+use Rattle.hex_digits.specs.Digits.{is_digit, all_digits, sixteen_digits, number_from, number_in, hex_byte}
+use Rattle.hex_digits.specs.Read.{digits_of}
 use Rattle.basics.proofs.Cases.{both}
-use Rattle.hex.specs.Inner.{guess}
-use Rattle.hex.proofs.Laws.{number-suc, all-suc, guessed}
-use Rattle.hex.proofs.read.Statement.{statement}
-use Rattle.hex.proofs.read.Tie as tie
+use Rattle.hex_digits.specs.Inner.{guess}
+use Rattle.hex_digits.proofs.Laws.{number_suc, all_suc, guessed}
+use Rattle.hex_digits.proofs.read.Statement.{statement}
+use Rattle.hex_digits.proofs.read.Tie as tie
 
 record Passed (line : List ℕ) (n : ℕ) (good : Bool) (k : ℕ) : Type 0 where
   most : k ≤ 16
   small : n < 16 ^ k
-  digits : good ≡ allDigits (take k line)
+  digits : good ≡ all_digits (take k line)
   value : good ≡ true → n ≡ number_in (take k line)
 
 -- one byte more, b, of which d is the guess and w what the guess writes: it is a digit where w is b
 next : {line : List ℕ} {n n' : ℕ} {good good' : Bool} {k k' d w : ℕ} → length line ≡ 16 → Passed line n good k → k < 16 → get_or line k 0 < 256
-    → d ≡ guess (get_or line k 0) → w ≡ hexByte (d % 16)
+    → d ≡ guess (get_or line k 0) → w ≡ hex_byte (d % 16)
     → n' ≡ n * 16 + d → good' ≡ (good && eqb w (get_or line k 0)) → k' ≡ k + 1 → Passed line n' good' k'
 next {line} {n} {n'} {good} {good'} {k} {k'} {d} {w} h p l small e f en eg ek =
     let b = get_or line k 0 in
     let g = guessed b small in
     let s : k < length line = omega arith in
-    let t : eqb w b ≡ isDigit b = ap (λ (x : ℕ). eqb x b) (f ∙ ap (λ (x : ℕ). hexByte (x % 16)) e) ∙ g.0 in
+    let t : eqb w b ≡ is_digit b = ap (λ (x : ℕ). eqb x b) (f ∙ ap (λ (x : ℕ). hex_byte (x % 16)) e) ∙ g.0 in
     let m : d < 16 = omega arith in
     rw (en, eg, ek)
     (record {
       most = omega arith;
       small = rw (add-one, pow-suc) (omega (arith, p.small));
-      digits = rw (add-one, all-suc line k s, t, p.digits);
-      value = λ y. let a = both good (eqb w b) y in rw (add-one, number-suc line k s) (omega (arith, p.value a.0, g.1 (sym t ∙ a.1)));
+      digits = rw (add-one, all_suc line k s, t, p.digits);
+      value = λ y. let a = both good (eqb w b) y in rw (add-one, number_suc line k s) (omega (arith, p.value a.0, g.1 (sym t ∙ a.1)));
     })
 
 -- its number fits
@@ -62,11 +62,11 @@ abbrev decreases-loop : tie.decreases-loop
 decreases-loop line n₀ good₀ k₀ n good k = 16 - k
 
 returns : tie.Need-returns invariant-loop decreases-loop
-unfolding digitsOf sixteenDigits
+unfolding digits_of sixteen_digits
 returns c = rw (ne_eqb (length c.before.before.args.line.now) 16 (λ e. c.if1.true (omega arith)))
 
 loop-holds : tie.Need-loop-init invariant-loop decreases-loop
-unfolding allDigits numberFrom
+unfolding all_digits number_from
 loop-holds c = record { most = omega arith; small = omega arith; digits = refl; value = λ y. refl }
 
 shared-slice-read-b : tie.Need-shared-slice-read-b invariant-loop decreases-loop
@@ -110,20 +110,20 @@ passed : (c : tie.At-loop invariant-loop decreases-loop) → 16 ≤ c.loop.k
 passed c h = take_all c.loop.k c.before.before.before.args.line.now (omega arith)
 
 returns-2 : tie.Need-returns-2 invariant-loop decreases-loop
-unfolding digitsOf sixteenDigits
+unfolding digits_of sixteen_digits
 returns-2 c =
     let w = passed c.before.before (omega arith) in
     let e = c.before.before.loop.invariant.value c.if2.true in
     rw (
       eq-eqb (length c.before.before.before.before.before.args.line.now) 16 (omega arith),
-      sym (ap allDigits w)
+      sym (ap all_digits w)
           ∙ sym c.before.before.loop.invariant.digits ∙ c.if2.true,
       e ∙ ap number_in w,
     )
 
 returns-3 : tie.Need-returns-3 invariant-loop decreases-loop
-unfolding digitsOf sixteenDigits
-returns-3 c = rw (sym (ap allDigits (passed c.before.before (omega arith))) ∙ sym c.before.before.loop.invariant.digits ∙ c.if2.false, and-false)
+unfolding digits_of sixteen_digits
+returns-3 c = rw (sym (ap all_digits (passed c.before.before (omega arith))) ∙ sym c.before.before.loop.invariant.digits ∙ c.if2.false, and-false)
 
 pub read_spec : {M : Type 1} → statement M
 read_spec =
