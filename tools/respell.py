@@ -9,7 +9,7 @@ import re
 import subprocess
 
 HERE = os.path.dirname(os.path.abspath(__file__))
-WORD = re.compile(r'[^\s(){}.;,@"«»\[\]`]+')
+WORD = re.compile(r'[^\s(){}.;,@"«»\[\]`◌]+')
 QUOTED = re.compile(r'b?"(?:\\.|[^"\\])*"|b?\'(?:\\.|[^\'\\])\'')
 SPAN = re.compile(r'`[^`\n]*`')
 FENCE = re.compile(r'^```.*?^```', re.S | re.M)

@@ -3,7 +3,7 @@ use Rattle.std.specs.Prelude.{◌≡◌, cond, ◌||◌, List, eqb, ltb, ℕ, �
 use Rattle.counting.specs.Calendar.{total, start, date_at}
 use Rattle.counting.specs.Years.{year_at}
 use Rattle.counting.specs.Answers.{Calendar, years, last_day}
-use Rattle.calendar_rules.specs.Calendars.{row, ◌stripAt◌, none, remainder, islamic_leap, thirties_and5, thirties_and5or6, in_turn}
+use Rattle.calendar_rules.specs.Calendars.{row, ◌strip_at◌, none, remainder, islamic_leap, thirties_and5, thirties_and5or6, in_turn}
 
 -- in a calendar with the years L and the first day first: position p, counted from 0, of the year i years after the first. Its length, 0 where there is none,
 -- and the day that it begins on
