@@ -1,6 +1,5 @@
 use mathlib.Core.Path.{sym}
 use Rattle.asking.proofs.Arms.{listed_is, no_listing}
-use borrow.Author.Rules.{rules}
 use Rattle.listing.proofs.is_listed.Goals as goal
 
 -- `listing::is_listed` meets its contract.

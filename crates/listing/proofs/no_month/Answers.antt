@@ -1,57 +1,46 @@
-use mathlib.Core.Path.{◌≡◌, refl, sym, ap, ◌∙◌}
-use mathlib.Core.Bool.{true, false}
-use native.Mathlib.Omega.{arith}
+use mathlib.Core.Path.{◌≡◌, refl, sym, ◌∙◌}
+use mathlib.Core.Bool.{Bool}
 use lib.IntN.{ℤ}
 use lib.Signed.{lt_z}
-use borrow.Author.Tests.{not-true, not-false}
 use mir.Syntax.{w64}
-use mir.Val.{to_z, of_z}
+use mir.Val.{SFits, to_z, of_z}
 use mir.ValLaws.{to_z-of_z}
-use Rattle.counting.specs.Answers.{Calendar}
-use Rattle.calendar_rules.specs.Calendars.{Listed}
-use Rattle.calendar_rules.proofs.Listed.{listed_sound}
+use Rattle.counting.specs.Answers.{last_year}
 use Rattle.asking.specs.Steps.{none_number}
 use Rattle.asking.proofs.Arms.{listed_some, unlisted}
-use borrow.Author.Rules.{rules}
 use Rattle.listing.proofs.no_month.Goals as goal
 
--- `listing::no_month` meets its contract.
--- the calendar
-row : (e : goal.Else-not-is_listed) → (K : Calendar) × Listed e.args.c K
-row e = listed_some e.args.c (sym e.is_listed.ensures ∙ not-false _ e.if-not-is_listed.false)
-
 -- the numbers read back
-year_is : (s : goal.Start) → to_z w64 (of_z w64 s.args.year) ≡ s.args.year
-year_is s = to_z-of_z w64 s.args.year s.ranges.year
+earlier : {y f F : ℤ} {b : Bool} → SFits w64 y → SFits w64 f → f ≡ F → lt_z (to_z w64 (of_z w64 y)) (to_z w64 (of_z w64 f)) ≡ b → lt_z y F ≡ b
+earlier {y} {f} p q e t = rw (to_z-of_z w64 y p, to_z-of_z w64 f q, e) at t
 
-first_is : (a : goal.After-first_year) → to_z w64 (of_z w64 a.first_year.result) ≡ (row a.before).0.first_year
-first_is a =
-    let f = row a.before in
-    ap (λ (z : ℤ). to_z w64 (of_z w64 z)) (a.first_year.ensures f.0 f.1)
-    ∙ to_z-of_z w64 f.0.first_year (record { sfits = omega (arith, (listed_sound f.1).first_year_lem) })
+later : (a : ℤ) {y : ℤ} {b : Bool} → SFits w64 y → lt_z a (to_z w64 (of_z w64 y)) ≡ b → lt_z a y ≡ b
+later a {y} p t = rw (to_z-of_z w64 y p) at t
 
-early : (e : goal.Then-year-first_year) → lt_z e.args.year (row e.before.before).0.first_year ≡ true
-early e = rw (year_is e.before.before.before.before, first_is e.before) at e.if-year-first_year.true
-
-not_early : (e : goal.Else-year-first_year) → lt_z e.args.year (row e.before.before).0.first_year ≡ false
-not_early e = rw (year_is e.before.before.before.before, first_is e.before) at e.if-year-first_year.false
-
+-- `listing::no_month` meets its contract.
 pub returns-then-not-is_listed : goal.returns-then-not-is_listed
 unfolding none_number
-returns-then-not-is_listed c = rw (unlisted c.args.c (sym c.is_listed.ensures ∙ not-true _ c.if-not-is_listed.true)) refl
+returns-then-not-is_listed c = rw (unlisted c.args.c (sym c.is_listed.ensures ∙ c.if-not-is_listed.true)) refl
 
 pub returns-then-year-first_year : goal.returns-then-year-first_year
 unfolding none_number
-returns-then-year-first_year c = let f = row c.before.before in rw (f.1.row, early c) refl
+returns-then-year-first_year c =
+    let f = listed_some c.args.c (sym c.is_listed.ensures ∙ c.if-not-is_listed.false) in
+    let q : SFits w64 c.first_year.result = record { sfits = c.first_year.type_inv } in
+    rw (f.1.row, earlier c.ranges.year q (c.first_year.ensures f.0 f.1) c.if-year-first_year.true) refl
 
 pub returns-then-year-gt-LAST_YEAR : goal.returns-then-year-gt-LAST_YEAR
 unfolding none_number
 returns-then-year-gt-LAST_YEAR c =
-    let f = row c.before.before.before in
-    rw (f.1.row, not_early c.before, rw (year_is c.before.before.before.before.before) at c.if-year-gt-LAST_YEAR.true) refl
+    let f = listed_some c.args.c (sym c.is_listed.ensures ∙ c.if-not-is_listed.false) in
+    let q : SFits w64 c.first_year.result = record { sfits = c.first_year.type_inv } in
+    let early = earlier c.ranges.year q (c.first_year.ensures f.0 f.1) c.if-year-first_year.false in
+    rw (f.1.row, early, later last_year c.ranges.year c.if-year-gt-LAST_YEAR.true) refl
 
 pub returns : goal.returns
 unfolding none_number
 returns c =
-    let f = row c.before.before.before in
-    rw (f.1.row, not_early c.before, rw (year_is c.before.before.before.before.before) at c.if-year-gt-LAST_YEAR.false) refl
+    let f = listed_some c.args.c (sym c.is_listed.ensures ∙ c.if-not-is_listed.false) in
+    let q : SFits w64 c.first_year.result = record { sfits = c.first_year.type_inv } in
+    let early = earlier c.ranges.year q (c.first_year.ensures f.0 f.1) c.if-year-first_year.false in
+    rw (f.1.row, early, later last_year c.ranges.year c.if-year-gt-LAST_YEAR.false) refl
