@@ -1,0 +1,23 @@
+use mathlib.Core.Path.{◌≡◌, refl, ap, ◌∙◌, subst}
+use mathlib.Core.List.{◌++◌, append-nil}
+use Prim.Native.Nat.{ℕ}
+use native.Mathlib.Omega.{arith}
+use native.Mathlib.Nat.{mod-mod}
+use lib.ListN.{drop}
+use Rattle.hex_digits.specs.Digits.{hex_byte, written_in}
+use Rattle.hex_digits.proofs.Writing.{next}
+use Rattle.hex_digits.proofs.write.Goals as goal
+
+pub loop-k-init : goal.loop-k-init
+loop-k-init c = record { size = refl; most = omega arith; all = append-nil (written_in 16 c.args.n) }
+
+pub loop-k-preserved : goal.loop-k-preserved
+loop-k-preserved c =
+    next c.loop-k.invariant (omega (arith, c.loop-k.invariant.most)) (c.byte.ensures ∙ ap hex_byte (mod-mod c.loop-k.rest 16)) refl refl
+
+pub returns : goal.returns
+unfolding written_in
+returns c =
+    let l = c.loop-k in
+    let k : l.k ≡ 0 = omega arith in
+    subst (λ (k : ℕ). written_in k l.rest ++ drop k l.out ≡ written_in 16 c.args.n) k l.invariant.all
