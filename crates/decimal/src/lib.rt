@@ -44,6 +44,7 @@ fn grown(n: u64, digit: u64) -> u64
 }
 
 // What the bytes are with one more.
+#[tactic(auto, unfolding(crate::specs::Decimal::pushed))]
 pub fn push(number: Number, byte: u8) -> Number
     ensures { result ≡ pushed number byte }
 {
