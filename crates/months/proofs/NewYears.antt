@@ -1,7 +1,7 @@
 -- The years of calendars 14 and 15 begin in March: each new year, and 1 March, by the days before a year of the Gregorian kind.
 use mathlib.Core.Path.{◌≡◌}
 use mathlib.Core.Bool.{Bool, true, false, cond}
-use Prim.Native.Nat.{ℕ, suc, ◌+◌, ◌-◌}
+use Prim.Native.Nat.{ℕ, suc, ◌+◌}
 use native.Mathlib.Omega.{arith}
 use Rattle.counting.specs.Calendar.{total, day_of}
 use Rattle.months.specs.Leap.{gregorian_long, gregorian_start}

@@ -1,6 +1,5 @@
 use native.Mathlib.Omega.{arith}
 use Rattle.months.proofs.Gregorian.{long_century, long_usual}
-use borrow.Author.Rules.{rules}
 use Rattle.gregorian_years.proofs.extra_days.Goals as goal
 
 pub returns-then-y-century : goal.returns-then-y-century

@@ -1,7 +1,6 @@
 use Prim.Native.Nat.{◌+◌, ◌-◌, ◌*◌, ◌/◌}
 use native.Mathlib.Omega.{arith}
 use Rattle.months.proofs.Gregorian.{year_of_lem}
-use borrow.Author.Rules.{rules}
 use Rattle.gregorian_years.proofs.year_of.Goals as goal
 
 pub returns : goal.returns
