@@ -1,7 +1,7 @@
 #!/usr/bin/env python3
 """almanac_arguments.py: runs target/bin/almanac with its request as arguments and compares what it writes with what almanac_expected.py computes: every
 request, lines of crates/almanac/stdin, arguments too long, an output that cannot be written. Then, through a pipe and on a terminal, that each answer comes
-before the next request is given. Then README's morning at the terminal, word for word. `rt check almanac sheet` first."""
+before the next request is given. Then README's morning at the terminal, word for word. `programs/build almanac sheet` first."""
 import os
 import pty
 import re

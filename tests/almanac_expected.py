@@ -4,7 +4,7 @@
     python3 tests/almanac_requests.py > crates/almanac/stdin
     python3 tests/almanac_expected.py < crates/almanac/stdin > crates/almanac/stdout
 
-`rt check almanac` runs the program on that stdin and compares. It takes half a minute, nearly all of it for the fits.
+`rt ci` runs the program on that stdin and compares. It takes half a minute, nearly all of it for the fits.
 
 Requests: each has the rows of places that it may consist of, shortest first. A token is at fault where no row has a place for it and every token
 before it; a request ends too soon where all tokens have places and no row is full.

@@ -5,7 +5,7 @@ from Python's own calendar. It shares nothing with the program.
     python3 tests/dates_requests.py > crates/dates/stdin
     python3 tests/dates_expected.py < crates/dates/stdin > crates/dates/stdout
 
-`rt check dates` runs the program on that stdin and compares.
+`rt ci` runs the program on that stdin and compares.
 """
 import bisect
 import datetime

@@ -3,7 +3,7 @@
 
     python3 tests/fit_lines_expected.py < crates/fit_lines/stdin > crates/fit_lines/stdout
 
-`rt check fit_lines` runs the program on that stdin and compares. It takes under a minute.
+`rt ci` runs the program on that stdin and compares. It takes under a minute.
 
 The mark of the line a, b, r at k is (a k + r) / b rounded down; the line generates a code when at each place k mark k+1 less mark k is
 the length there. Adding b to r adds 1 to every mark and changes no length, so r from 0 to b-1 is enough. Then the mark at 0 is 0, and

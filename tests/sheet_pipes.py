@@ -1,7 +1,7 @@
 #!/usr/bin/env python3
 """sheet_pipes.py: runs target/bin/sheet on crates/sheet/stdin through pipes that give few bytes at a time and take few, and compares
 what it writes with crates/sheet/stdout. Then: that an answer comes before the next line is given, and that the program ends on an
-empty input. `rt check sheet` first."""
+empty input. `programs/build sheet` first."""
 import fcntl
 import os
 import random
