@@ -1,3 +1,4 @@
 pub mod Claims
 pub mod Packing
 pub mod Tables
+pub mod Loops

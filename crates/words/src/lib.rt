@@ -73,6 +73,7 @@ pub enum Word {
 }
 
 // A capital letter made small; any other byte as it is.
+#[tactic(auto, unfolding(crate::specs::Text::lower))]
 fn lower_case(byte: u8) -> u8
     ensures { result ≡ lower byte }
 {
@@ -83,6 +84,7 @@ fn lower_case(byte: u8) -> u8
 }
 
 // The number of a letter or hyphen, 1 to 27; 0 of any other byte.
+#[tactic(auto, unfolding(crate::specs::Words::small_letter))]
 fn letter(byte: u8) -> u8
     ensures { result ≡ letter_of byte }
 {
@@ -97,6 +99,7 @@ fn letter(byte: u8) -> u8
 }
 
 // A word with one more byte.
+#[tactic(auto, unfolding(crate::specs::Packed::pushed))]
 pub fn push(word: Word, byte: u8) -> Word
     ensures { result ≡ pushed word byte }
 {
@@ -145,7 +148,7 @@ pub fn weekday(word: Word) -> u64
 }
 
 // What is asked; `Unknown` where a word names no request.
-#[derive(Drop)]
+#[derive(Clone, Copy)]
 pub enum Request {
     Day,
     Date,
@@ -186,6 +189,7 @@ pub fn request_of(word: Word) -> Request
 }
 
 // Whether a word is `all`.
+#[tactic(auto, unfolding(crate::specs::Packed::spells, crate::specs::Text::bytes, crate::specs::Text::lower, crate::specs::Words::small_letter, crate::specs::Words::packed_from))]
 pub fn is_all(word: Word) -> bool
     ensures { result ≡ spells word "all" }
 {

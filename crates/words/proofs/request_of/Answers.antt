@@ -1,18 +1,17 @@
--- `words::request_of` meets its contract.
 use mathlib.Core.Path.{◌≡◌, refl, ap, ◌∙◌}
 use mathlib.Core.List.{List, [], ◌∷◌, map}
 use Prim.Native.Nat.{ℕ, zero, suc, ◌<◌}
 use Prim.Native.String.{String}
 use native.Mathlib.Omega.{arith}
 use lib.ListN.{length, get_or, get_or-map}
-use borrow.Author.Rules.{rules}
+use Rattle.words.specs.declared.Word.{Word}
 use Rattle.words.specs.declared.Request.TheVariants.{Day, Unknown}
 use Rattle.words.specs.Text.{bytes, lower}
 use Rattle.words.specs.Names.{request_names, request_numbered}
 use Rattle.words.specs.Words.{small_letter, packed_from, packed}
+use Rattle.words.specs.Inner.{place_of}
 use Rattle.words.proofs.Tables.{found, place_below}
-use Rattle.words.proofs.request_of.Statement.{statement}
-use Rattle.words.proofs.request_of.Tie as tie
+use Rattle.words.proofs.request_of.Goals as goal
 
 -- the request's number at each place of the table
 numbers : List ℕ
@@ -28,25 +27,17 @@ within [] k d e h = absurd (omega arith)
 within (x ∷ l) zero d e h = refl
 within (x ∷ l) (suc k) d e h = within l k d e (omega arith)
 
-slice-aggregate-find : tie.Need-slice-aggregate-find
-slice-aggregate-find c = search rules
+below : (table : List ℕ) (word : Word) (place : ℕ) → length table ≡ 13 → place ≡ place_of table word → place < 13
+below table word place l e = rw e (place_below 13 table word (omega arith) (omega arith))
 
-find-requires : tie.Need-find-requires
-find-requires c κs = search rules
+pub bounds-place-place : goal.bounds-place-place
+bounds-place-place c = below _ _ _ refl c.find-place.ensures
 
-below : (c : tie.After-find) → c.find.result < 13
-below c = rw c.find.ensures (place_below 13 _ _ (omega arith) (omega arith))
-
-array-copy-out-result : tie.Need-array-copy-out-result
-array-copy-out-result = below
-
-returns : tie.Need-returns
+pub returns : goal.returns
 unfolding numbers names request_names request_numbered bytes lower small_letter packed_from
 returns c =
-    within (map request_numbered numbers) c.before.find.result Day Unknown (below c.before)
-    ∙ get_or-map request_numbered numbers c.before.find.result 0
+    let place = c.find-place.result in
+    within (map request_numbered numbers) place Day Unknown (below _ _ _ refl c.find-place.ensures)
+    ∙ get_or-map request_numbered numbers place 0
     ∙ ap request_numbered
-    (ap (λ (k : ℕ). get_or numbers k 0) c.before.find.ensures ∙ found (λ (k : ℕ). get_or numbers k 0) names request_names refl refl refl _)
-
-pub request-of-spec : {M : Type 1} → statement M
-request-of-spec = tie.close (tie.spec slice-aggregate-find find-requires array-copy-out-result returns)
+    (ap (λ (k : ℕ). get_or numbers k 0) c.find-place.ensures ∙ found (λ (k : ℕ). get_or numbers k 0) names request_names refl refl refl _)
