@@ -66,6 +66,7 @@ pub fn append_weekday(at: usize, weekday: u64, line: &mut [u8]) -> usize
 }
 
 // The words of an answer number, and none for any other.
+#[tactic(auto, unfolding(words::specs::Names::name_of, words::specs::Text::bytes, crate::specs::Phrases::answer_words))]
 pub fn append_answer(at: usize, number: u64, line: &mut [u8]) -> usize
     ensures { Writes at (name_of answer_words number) line.old line.new result }
 {
