@@ -1,6 +1,6 @@
 -- What a state keeps, for code that looks into it.
 use mathlib.Core.Path.{◌≡◌, refl, sym, ap, ◌∙◌}
-use mathlib.Core.List.{[]}
+use mathlib.Core.List.{List, [], ◌++◌}
 use mathlib.Core.Bool.{Bool, true, false}
 use Prim.Native.Nat.{ℕ, ◌≤◌, ◌<◌, min}
 use native.Mathlib.Omega.{arith}
@@ -8,6 +8,7 @@ use lib.Dec.{ltb}
 use lib.ListN.{length, take, length-take}
 use lib.Seq.{take_all}
 use borrow.Author.Tests.{ltb-true, ltb-false}
+use Rattle.streaming.proofs.Kept.{Keeping, full, passed}
 use Rattle.carrying.specs.declared.Unfinished.{Unfinished}
 use Rattle.carrying.specs.Kept.{most, kept_of}
 
@@ -33,3 +34,15 @@ module _ (u : Unfinished) where
       go true t = let k : n ≡ u.count = omega (arith, ltb-true u.count 17 t) in ap (λ (i : ℕ). take i u.bytes) k
       go false t =
           let l = ltb-false u.count 17 t in take_all n u.bytes (omega arith) ∙ sym (take_all u.count u.bytes (omega arith))
+
+-- what the loop of `keep` has kept once all 17 bytes are there, or all bytes are passed
+module _ (u : Unfinished) (more bytes : List ℕ) (count i : ℕ) where
+  pub kept_full : Keeping most (take u.count u.bytes ++ more) more bytes count i → most ≤ count
+      → kept_of (record { bytes = bytes; count = count }) ≡ take most (kept_of u ++ more)
+  unfolding kept_of
+  kept_full k h = full k h
+
+  pub kept_passed : Keeping most (take u.count u.bytes ++ more) more bytes count i → length more ≤ i
+      → kept_of (record { bytes = bytes; count = count }) ≡ take most (kept_of u ++ more)
+  unfolding kept_of
+  kept_passed k h = passed k h

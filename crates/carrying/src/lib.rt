@@ -39,6 +39,7 @@ fn line_end(bytes: &[u8]) -> usize
 }
 
 // The line with more bytes.
+#[tactic(auto, using(crate::proofs::Kept::kept_full, crate::proofs::Kept::kept_passed))]
 fn keep(line: Unfinished, more: &[u8]) -> Unfinished
     ensures { kept_of result ≡ take most (kept_of line ++ more.now) }
 {
