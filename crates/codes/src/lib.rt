@@ -10,7 +10,7 @@ pub const MOST_LENGTHS: usize = 512;
 pub const LONGEST: u64 = 400;
 
 // The line whose mark at k is (a k + r) / b rounded down.
-#[derive(Drop)]
+#[derive(Clone, Copy)]
 pub struct Line {
     pub a: u64,
     pub b: u64,
