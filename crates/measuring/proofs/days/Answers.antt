@@ -1,7 +1,5 @@
-use Rattle.std.proofs.Common.{◌≡◌, ℕ, ◌-◌, true, ℤ, sym, subst}
+use Rattle.std.proofs.Common.{◌≡◌, ℕ, ◌-◌, true, ℤ, w64, FitsSigned, to_z, of_z, sym, subst}
 use Rattle.std.proofs.lemmas.Int.{to_z-of_z}
-use mir.Syntax.{w64}
-use mir.Val.{SFits, to_z, of_z}
 use Rattle.counting.specs.Answers.{Calendar}
 use Rattle.months.specs.Parts.{length_at}
 use Rattle.asking.specs.Steps.{year_inside, years_since, Sought}
@@ -10,7 +8,7 @@ use Rattle.asking.proofs.Answers.{nowhere_year, nowhere_0, no_days, days_found}
 use Rattle.measuring.proofs.days.Goals as goal
 
 -- the year, as it is passed, reads back
-taken : {y : ℤ} {r : ℕ} → SFits w64 y → true ≡ year_inside (to_z w64 (of_z w64 y)) → r ≡ years_since (to_z w64 (of_z w64 y)) → Since y r
+taken : {y : ℤ} {r : ℕ} → FitsSigned w64 y → true ≡ year_inside (to_z w64 (of_z w64 y)) → r ≡ years_since (to_z w64 (of_z w64 y)) → Since y r
 taken {y} {r} f t e = let same = to_z-of_z w64 y f in since y r (sym (rw same at t)) (rw same at e)
 
 pub returns-then-position-eq0 : goal.returns-then-position-eq0
