@@ -93,7 +93,8 @@ pub fn month_at(i: u16, p: u64) -> Month
         return Month { start: 0, days: 0 };
     }
     let y = gates::year_after(i);
-    if p + 8 * y.leap == 6 {
+    let none = p + 8 * y.leap == 6;
+    if none {
         return Month { start: 0, days: 0 };
     }
     let q = month_of(y.leap, p);

@@ -8,11 +8,11 @@ use Rattle.hebrew_days.proofs.month_at.Goals as goal
 pub returns-then-p-gt12 : goal.returns-then-p-gt12
 returns-then-p-gt12 c = no_month_lem (years hebrew) 347998 c.args.i c.args.p 0 (omega (arith, hebrew_positions c.args.i))
 
-pub returns-then-p-y-eq6 : goal.returns-then-p-y-eq6
-returns-then-p-y-eq6 c =
+pub returns-then-none : goal.returns-then-none
+returns-then-none c =
     let x = c.year_after-y.ensures.0 in
     none_there_lem (years hebrew) 347998 c.args.i c.args.p 0
-    (sym (no_month_there (omega arith) x c.args.p (omega arith) c.if-p-y-eq6.true) ∙ hebrew_length c.args.i c.args.p _ _ _ x)
+    (sym (no_month_there (omega arith) x c.args.p (omega arith) c.if-none.true) ∙ hebrew_length c.args.i c.args.p _ _ _ x)
 
 pub returns : goal.returns
 returns c =
@@ -22,4 +22,4 @@ returns c =
     let next = rw e at c.month_before-next.ensures in
     hebrew_month c.args.i c.args.p _ _ _ _ _ (omega arith) x
     (ap (λ (k : ℕ). c.year_after-y.result.start + k) here)
-    ((λ j. next j - here j) ∙ (word_length (omega arith) x c.args.p (omega arith) c.if-p-y-eq6.false).1)
+    ((λ j. next j - here j) ∙ (word_length (omega arith) x c.args.p (omega arith) c.if-none.false).1)
