@@ -1,0 +1,29 @@
+use Rattle.std.proofs.Common.{◌≡◌, sym, ap, ◌∙◌, ℕ, ◌/◌, ◌%◌}
+use lib.IntN.{ℤ}
+use mir.Syntax.{w64}
+use mir.ValLaws.{to_z-of_z}
+use Rattle.calendar_rules.specs.Answers.{day_answer_with}
+use Rattle.calendar_rules.proofs.Claims.{no_weekday}
+use Rattle.asking.specs.Steps.{packed_day}
+use Rattle.asking.proofs.Answers.{fields}
+use Rattle.c_dates.specs.declared.DayFields.{DayFields}
+use Rattle.c_dates.specs.Fields.{day_fields}
+use Rattle.c_dates.proofs.ijok_date_to_day.Goals as goal
+
+-- the fields of an answer as one number
+split : (c : ℕ) (y : ℤ) (m d w r : ℕ) (x : DayFields) → (x.number ≡ r / 4294967296) × (x.day ≡ r % 4294967296) → r ≡ packed_day (day_answer_with c y m d w)
+    → day_fields x ≡ day_answer_with c y m d w
+split c y m d w r x p e = (λ i. record { number = p.0 i; day = p.1 i }) ∙ fields c y m d w r e
+
+pub returns-then-weekday-eq0 : goal.returns-then-weekday-eq0
+returns-then-weekday-eq0 c =
+    let a = c.args in
+    rw (c.if-calendar-eq18.true, c.if-weekday-eq0.true)
+    (split 18 a.year a.month a.day 0 c.hebrew_day.result c.day_fields.result c.day_fields.ensures
+    ((rw (to_z-of_z w64 a.year c.ranges.year) at c.hebrew_day.ensures) ∙ ap packed_day (sym (no_weekday 18 a.year a.month a.day))))
+
+pub returns : goal.returns
+returns c =
+    let a = c.args in
+    split a.calendar a.year a.month a.day a.weekday c.packed_day.result c.day_fields-2.result c.day_fields-2.ensures
+    (rw (to_z-of_z w64 a.year c.ranges.year) at c.packed_day.ensures)
