@@ -35,7 +35,7 @@ pub enum Dated {
 }
 
 // The answer to a position of a year: a month of so many days, a strip of so many loose days, none this year, or why there is no such position.
-#[derive(Drop)]
+#[derive(Clone, Copy)]
 pub enum Position {
     Month(u64),
     Strip(u64),
