@@ -21,6 +21,7 @@ pub enum EasterDate {
 }
 
 // Easter of a year: in calendar 10 (Julian) from year 1, in calendar 11 (Gregorian) from year 1583, in both to year 9999.
+#[tactic(auto, unfolding(computus::specs::Rule::easter_answer))]
 pub fn easter(calendar: u64, year: i64) -> EasterDate
     ensures { easter_paper result ≡ easter_answer calendar year }
 {
@@ -31,6 +32,7 @@ pub fn easter(calendar: u64, year: i64) -> EasterDate
     }
 }
 
+#[tactic(auto, using(crate::proofs::Years::asked_for))]
 fn julian(year: i64) -> EasterDate
     ensures { easter_paper result ≡ in_years 1 julian_easter year }
 {
@@ -40,6 +42,7 @@ fn julian(year: i64) -> EasterDate
     }
 }
 
+#[tactic(auto, using(crate::proofs::Years::asked_for))]
 fn gregorian(year: i64) -> EasterDate
     ensures { easter_paper result ≡ in_years 1583 gregorian_easter year }
 {
@@ -116,6 +119,7 @@ fn by_constants(m: u64, n: u64, year: u64) -> MonthDay
     date(m, d, e)
 }
 
+#[tactic(auto, unfolding(computus::specs::Rule::dated))]
 fn date(m: u64, d: u64, e: u64) -> MonthDay
     requires { (m < 30) × ((d < 30) × (e < 7)) }
     ensures { date_paper result ≡ dated m d e }
