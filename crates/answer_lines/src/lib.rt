@@ -157,6 +157,7 @@ pub fn first_row(calendar: u64, day: u64, year: i64, line: &mut [u8]) -> usize
     append_signed_in(c, 5, year, line)
 }
 
+#[tactic(auto, unfolding(words::specs::Text::bytes))]
 fn append_kind(at: usize, answer: Position, line: &mut [u8]) -> usize
     ensures { Writes at (left_in 5 (kind_name (position_paper answer).kind)) line.old line.new result }
 {
