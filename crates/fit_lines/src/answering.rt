@@ -17,21 +17,21 @@ fn front(numbers: &[u64], count: usize) -> &[u64] {
     }
 }
 
-fn put_refusal(sink: Sink, why: Refusal, out: &mut [u8]) -> Sink {
-    put_number(sink, refusals::number(why) as u64, out)
+fn put_refusal(rt: &impl Print, sink: Sink, why: Refusal, out: &mut [u8]) -> Sink {
+    put_number(rt, sink, refusals::number(why) as u64, out)
 }
 
-fn put_no_request(sink: Sink, out: &mut [u8]) -> Sink {
-    put_all(sink, b"not a request", out)
+fn put_no_request(rt: &impl Print, sink: Sink, out: &mut [u8]) -> Sink {
+    put_all(rt, sink, b"not a request", out)
 }
 
-fn answer_fit(sink: Sink, code: &[u64], out: &mut [u8]) -> Sink {
+fn answer_fit(rt: &impl Print, sink: Sink, code: &[u64], out: &mut [u8]) -> Sink {
     match fitting::fit(code) {
         Fitted::By(line) => {
             let values = [line.a, line.b, line.r];
-            put_numbers(put(sink, b'0', out), &values, out)
+            put_numbers(rt, put(rt, sink, b'0', out), &values, out)
         }
-        Fitted::Refused(why) => put_all(put_refusal(sink, why, out), b" 0 0 0", out),
+        Fitted::Refused(why) => put_all(rt, put_refusal(rt, sink, why, out), b" 0 0 0", out),
     }
 }
 
@@ -44,7 +44,7 @@ fn unfold_within(room: usize, line: Line, count: usize, lengths: &mut [u64]) -> 
     }
 }
 
-fn answer_unfold(sink: Sink, numbers: &[u64], room: usize, out: &mut [u8]) -> Sink
+fn answer_unfold(rt: &impl Print, sink: Sink, numbers: &[u64], room: usize, out: &mut [u8]) -> Sink
     requires { 4 ≤ length numbers.now }
 {
     let line = Line {
@@ -56,35 +56,47 @@ fn answer_unfold(sink: Sink, numbers: &[u64], room: usize, out: &mut [u8]) -> Si
     let mut space = [0u64; MOST_LENGTHS];
     let lengths: &mut [u64] = &mut space;
     match unfold_within(room, line, count, lengths) {
-        Unfolded::Done => put_numbers(put(sink, b'0', out), front(lengths, count), out),
-        Unfolded::Refused(why) => put_refusal(sink, why, out),
+        Unfolded::Done => put_numbers(rt, put(rt, sink, b'0', out), front(lengths, count), out),
+        Unfolded::Refused(why) => put_refusal(rt, sink, why, out),
     }
 }
 
-fn answer_request(sink: Sink, word: u64, numbers: &[u64], out: &mut [u8]) -> Sink {
+fn answer_request(rt: &impl Print, sink: Sink, word: u64, numbers: &[u64], out: &mut [u8]) -> Sink {
     let n = numbers.len();
     if word == FIT {
-        return answer_fit(sink, numbers, out);
+        return answer_fit(rt, sink, numbers, out);
     }
     if word == UNFOLD {
         if n == 4 {
-            return answer_unfold(sink, numbers, MOST_LENGTHS, out);
+            return answer_unfold(rt, sink, numbers, MOST_LENGTHS, out);
         }
         if n == 5 {
-            return answer_unfold(sink, numbers, numbers[4] as usize, out);
+            return answer_unfold(rt, sink, numbers, numbers[4] as usize, out);
         }
     }
-    put_no_request(sink, out)
+    put_no_request(rt, sink, out)
 }
 
-fn answer_line(scan: Scan, sink: Sink, numbers: &mut [u64], out: &mut [u8]) -> Sink {
+fn answer_line(
+    rt: &impl Print,
+    scan: Scan,
+    sink: Sink,
+    numbers: &mut [u64],
+    out: &mut [u8],
+) -> Sink {
     match after_space(scan, numbers) {
-        Scan::Space(word, count) => answer_request(sink, word, front(numbers, count), out),
-        _ => put_no_request(sink, out),
+        Scan::Space(word, count) => answer_request(rt, sink, word, front(numbers, count), out),
+        _ => put_no_request(rt, sink, out),
     }
 }
 
 // The answer to a line of which no byte is left, with a newline.
-pub(crate) fn answer(scan: Scan, sink: Sink, numbers: &mut [u64], out: &mut [u8]) -> Sink {
-    put(answer_line(scan, sink, numbers, out), b'\n', out)
+pub(crate) fn answer(
+    rt: &impl Print,
+    scan: Scan,
+    sink: Sink,
+    numbers: &mut [u64],
+    out: &mut [u8],
+) -> Sink {
+    put(rt, answer_line(rt, scan, sink, numbers, out), b'\n', out)
 }

@@ -15,7 +15,7 @@ const SIX_BYTES: u64 = 0x01_00_00_00_00_00_00;
 const TENTH: u64 = 1844674407370955161;
 
 // How far a line is read.
-#[derive(Drop)]
+#[derive(Clone, Copy)]
 pub(crate) enum Scan {
     // In the word: the word so far.
     Word(u64),
