@@ -18,26 +18,33 @@ mod reading;
 
 use printing::Sink;
 use reading::{MOST_NUMBERS, Scan};
+use std::io::Read;
 
 // Between two bytes: how far the line is read, and what waits to be written.
-#[derive(Drop)]
+#[derive(Clone, Copy)]
 struct State {
     scan: Scan,
     sink: Sink,
 }
 
 // What one reading leaves, and whether there is to be another.
-#[derive(Drop)]
+#[derive(Clone, Copy)]
 struct Turn {
     state: State,
     more: bool,
 }
 
-fn take_byte(state: State, byte: u8, numbers: &mut [u64; MOST_NUMBERS], out: &mut [u8]) -> State {
+fn take_byte(
+    rt: &impl Print,
+    state: State,
+    byte: u8,
+    numbers: &mut [u64; MOST_NUMBERS],
+    out: &mut [u8],
+) -> State {
     let scan = state.scan;
     let sink = state.sink;
     if byte == b'\n' {
-        let answered = answering::answer(scan, sink, numbers, out);
+        let answered = answering::answer(rt, scan, sink, numbers, out);
         let fresh = reading::start();
         State {
             scan: fresh,
@@ -50,6 +57,7 @@ fn take_byte(state: State, byte: u8, numbers: &mut [u64; MOST_NUMBERS], out: &mu
 }
 
 fn take_piece(
+    rt: &impl Print,
     start: State,
     piece: &[u8],
     numbers: &mut [u64; MOST_NUMBERS],
@@ -58,7 +66,7 @@ fn take_piece(
     let mut state = start;
     let mut k: usize = 0;
     while k < piece.len() {
-        state = take_byte(state, piece[k], numbers, out);
+        state = take_byte(rt, state, piece[k], numbers, out);
         k += 1;
     }
     state
@@ -73,12 +81,14 @@ fn line_dropped(state: State) -> State {
 
 // Reads once, and writes the answers to what came. Where the read fails the unfinished line is not answered: how it goes on is not known.
 fn take_turn(
+    rt: &(impl Print + Eprint),
+    from: &mut impl Read,
     state: State,
     input: &mut [u8],
     numbers: &mut [u64; MOST_NUMBERS],
     out: &mut [u8],
 ) -> Turn {
-    let got = stdio::read(b"dates", input);
+    let got = stdio::read(rt, from, b"dates", input);
     let n = got.count;
     if got.failed {
         return Turn {
@@ -89,31 +99,41 @@ fn take_turn(
     if n == 0 {
         return Turn { state, more: false };
     }
-    let after = take_piece(state, &input[..n], numbers, out);
+    let after = take_piece(rt, state, &input[..n], numbers, out);
     let scan = after.scan;
     let waiting = after.sink;
-    let sink = printing::flush(waiting, out);
+    let sink = printing::flush(rt, waiting, out);
     let more = printing::is_good(sink);
     let next = State { scan, sink };
     Turn { state: next, more }
 }
 
 // A last line without newline counts if it has bytes.
-fn answer_rest(state: State, numbers: &mut [u64; MOST_NUMBERS], out: &mut [u8]) -> Sink {
+fn answer_rest(
+    rt: &impl Print,
+    state: State,
+    numbers: &mut [u64; MOST_NUMBERS],
+    out: &mut [u8],
+) -> Sink {
     let scan = state.scan;
     let sink = state.sink;
     if reading::is_start(scan) {
         return sink;
     }
-    let answered = answering::answer(scan, sink, numbers, out);
-    printing::flush(answered, out)
+    let answered = answering::answer(rt, scan, sink, numbers, out);
+    printing::flush(rt, answered, out)
 }
 
-fn finish(state: State, numbers: &mut [u64; MOST_NUMBERS], out: &mut [u8]) {
-    printing::end(b"dates", answer_rest(state, numbers, out));
+fn finish(
+    rt: &(impl Print + Eprint),
+    state: State,
+    numbers: &mut [u64; MOST_NUMBERS],
+    out: &mut [u8],
+) {
+    printing::end(rt, b"dates", answer_rest(rt, state, numbers, out));
 }
 
-fn main() {
+fn main(rt: HostRuntime) {
     let mut input_space = [0u8; 16384];
     let mut number_space = [0u64; MOST_NUMBERS];
     let mut out_space = [0u8; 16384];
@@ -122,16 +142,17 @@ fn main() {
     let out: &mut [u8] = &mut out_space;
     let scan = reading::start();
     let sink = printing::start();
+    let mut from = rt.stdin();
     let mut state = State { scan, sink };
     // A proved loop ends, and nothing says that the input does: the turns are counted down from a number that no run uses up.
     let mut turns = u64::MAX;
     while turns > 0 {
-        let done = take_turn(state, input, numbers, out);
+        let done = take_turn(&rt, &mut from, state, input, numbers, out);
         state = done.state;
         if !done.more {
             break;
         }
         turns -= 1;
     }
-    finish(state, numbers, out);
+    finish(&rt, state, numbers, out);
 }

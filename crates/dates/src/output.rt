@@ -2,17 +2,18 @@
 use printing::{Sink, put, put_all, put_number};
 use refusals::Refusal;
 
-pub(crate) fn put_year(sink: Sink, year: i64, out: &mut [u8]) -> Sink {
+pub(crate) fn put_year(rt: &impl Print, sink: Sink, year: i64, out: &mut [u8]) -> Sink {
     let distance = stdio::magnitude(year);
     if year < 0 {
-        return put_number(put(sink, b'-', out), distance, out);
+        return put_number(rt, put(rt, sink, b'-', out), distance, out);
     }
-    put_number(sink, distance, out)
+    put_number(rt, sink, distance, out)
 }
 
-pub(crate) fn put_refusal(sink: Sink, why: Refusal, out: &mut [u8]) -> Sink {
+pub(crate) fn put_refusal(rt: &impl Print, sink: Sink, why: Refusal, out: &mut [u8]) -> Sink {
     put_number(
-        put_all(sink, b"refused ", out),
+        rt,
+        put_all(rt, sink, b"refused ", out),
         refusals::wide_number(why),
         out,
     )

@@ -10,7 +10,7 @@ const TENTH: u64 = 1844674407370955161;
 const LAST_YEAR: u64 = 0x7fff_ffff_ffff_ffff;
 
 // How far a line is read: how many numbers are kept, and whether the second, a year, has a minus sign.
-#[derive(Drop)]
+#[derive(Clone, Copy)]
 pub(crate) enum Scan {
     Start,
     // In a number: the same of those before it, and the number so far.
