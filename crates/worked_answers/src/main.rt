@@ -6,8 +6,8 @@ mod limits;
 mod output;
 mod show;
 
-fn main() {
+fn main(rt: HostRuntime) {
     let mut good = true;
-    examples::show_all(&mut good);
-    limits::show_all(&mut good);
+    examples::show_all(&rt, &mut good);
+    limits::show_all(&rt, &mut good);
 }
