@@ -11,7 +11,7 @@ mod tables;
 mod tally;
 mod weekdays;
 
-fn main() {
+fn main(rt: HostRuntime) {
     let mut good = true;
-    files::compare_all(&mut good);
+    files::compare_all(&rt, &mut good);
 }

@@ -3,7 +3,7 @@
 use calendars::Date;
 
 // What the next byte of a line belongs to.
-#[derive(Drop)]
+#[derive(Clone, Copy)]
 pub enum Place {
     // The first byte of a cell, or the first digit after a minus sign.
     Cell,
@@ -16,7 +16,7 @@ pub enum Place {
 }
 
 // A line as far as it was read: its numbers, how many of them are complete, and whether the year is negative.
-#[derive(Drop)]
+#[derive(Clone, Copy)]
 pub struct Line {
     pub numbers: [u64; 5],
     pub count: usize,

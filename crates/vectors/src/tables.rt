@@ -2,9 +2,12 @@
 use crate::rows::{Line, Place};
 use crate::tally::{Finding, Tally};
 use crate::{dates, easters, hebrew_years, rows, tally, weekdays};
+use std::fs;
+use std::io::Read;
+use std::rt::Files;
 
 // What the numbers of a table's rows are.
-#[derive(Drop)]
+#[derive(Clone, Copy)]
 pub enum Table {
     // Calendar, year, month, day, day number.
     Dates,
@@ -38,14 +41,14 @@ fn compare_row(table: Table, line: Line) -> Finding {
 }
 
 // The line that is being read, and the counts of the rows before it.
-#[derive(Drop)]
+#[derive(Clone, Copy)]
 struct Scan {
     line: Line,
     tally: Tally,
 }
 
 // What one reading leaves, whether there is to be another, and whether it failed.
-#[derive(Drop)]
+#[derive(Clone, Copy)]
 struct Part {
     scan: Scan,
     more: bool,
@@ -53,7 +56,7 @@ struct Part {
 }
 
 // The counts of a whole table, or that it cannot be read to its end.
-#[derive(Drop)]
+#[derive(Clone, Copy)]
 pub enum Compared {
     Rows(Tally),
     NotRead,
@@ -94,20 +97,24 @@ fn take_bytes(table: Table, scan: Scan, bytes: &[u8]) -> Scan {
     next
 }
 
-fn read_part(file: i32, table: Table, scan: Scan) -> Part {
-    let mut buffer = io::buffer();
-    let got = libc::read(file, &mut buffer);
-    let n = io::count(got, &buffer);
-    let next = take_bytes(table, scan, &buffer[..n]);
-    Part {
-        scan: next,
-        more: got > 0,
-        failed: got < 0,
+fn read_part(file: &mut impl Read, table: Table, scan: Scan) -> Part {
+    let mut buffer = [0u8; 4096];
+    match file.read(&mut buffer) {
+        Ok(n) => Part {
+            scan: take_bytes(table, scan, &buffer[..n]),
+            more: n > 0,
+            failed: false,
+        },
+        Err(_) => Part {
+            scan,
+            more: false,
+            failed: true,
+        },
     }
 }
 
 // A proved loop has to end: 1,000,000 parts are more than any table has.
-fn compare_rows(file: i32, table: Table) -> Compared {
+fn compare_rows(file: &mut impl Read, table: Table) -> Compared {
     let mut scan = Scan {
         line: rows::empty(),
         tally: tally::of_file(),
@@ -126,14 +133,14 @@ fn compare_rows(file: i32, table: Table) -> Compared {
     Compared::NotRead
 }
 
-pub(crate) fn compare(name: &[u8], table: Table) -> Compared {
-    let file = os::open_read(name);
-    if file < 0 {
-        return Compared::NotRead;
+pub(crate) fn compare(rt: &impl Files, name: &str, table: Table) -> Compared {
+    match fs::open(rt, name) {
+        Ok(opened) => {
+            let mut file = opened;
+            compare_rows(&mut file, table)
+        }
+        Err(_) => Compared::NotRead,
     }
-    let found = compare_rows(file, table);
-    libc::close(file);
-    found
 }
 
 // A last line without a newline counts if it has bytes.

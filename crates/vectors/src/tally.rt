@@ -1,7 +1,7 @@
 // What comparing a row finds, and the counts over the rows. They wrap only past 2^64 rows.
 use std::num::wrapping_add_u64;
 
-#[derive(Drop)]
+#[derive(Clone, Copy)]
 pub enum Finding {
     Agrees,
     // The row agrees as far as it can be compared.
@@ -9,7 +9,7 @@ pub enum Finding {
     Differs,
 }
 
-#[derive(Drop)]
+#[derive(Clone, Copy)]
 pub struct Tally {
     pub files: u64,
     pub rows: u64,
