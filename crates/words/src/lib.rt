@@ -189,7 +189,6 @@ pub fn request_of(word: Word) -> Request
 }
 
 // Whether a word is `all`.
-#[tactic(auto, unfolding(crate::specs::Packed::spells, crate::specs::Text::bytes, crate::specs::Text::lower, crate::specs::Words::small_letter, crate::specs::Words::packed_from))]
 pub fn is_all(word: Word) -> bool
     ensures { result ≡ spells word "all" }
 {

@@ -16,4 +16,6 @@ returns-in-On c =
 
 pub returns-in-Refused : goal.returns-in-Refused
 unfolding calendar_row or_refusal
-returns-in-Refused c = let w = then c.append_heading-a.ensures c.append_refusal.ensures in record { text = rw (c.in-Refused.is, refused _ _) w; within = counts w }
+returns-in-Refused c =
+    let w = then c.append_heading-a.ensures c.append_refusal.ensures in
+    record { text = rw (c.in-Refused.is, refused _ _) w; within = counts w }
