@@ -20,6 +20,7 @@ pub enum Line {
 // How many bytes a frame has.
 const FRAME: usize = 16;
 
+#[tactic(auto, using(crate::proofs::First::is_frame, crate::proofs::First::no_digits, crate::proofs::First::no_newline, crate::proofs::First::too_short))]
 pub fn first_line(bytes: &[u8]) -> Line
     ensures { result ≡ first_line bytes.now }
 {

@@ -1,3 +1,4 @@
+-- What some bytes begin with, as the code finds it.
 use mathlib.Core.Path.{◌≡◌, refl, sym, ap, ◌∙◌}
 use mathlib.Core.List.{List}
 use mathlib.Core.Bool.{Bool, true, false, cond, ◌&&◌}
@@ -16,21 +17,20 @@ use Rattle.verdicts.proofs.Verdicts.{frame}
 use Rattle.replying.specs.declared.Line.TheVariants.{Frame, Other}
 use Rattle.replying.specs.First.{first_line}
 use Rattle.replying.proofs.Claims.{frame_first}
-use Rattle.replying.proofs.first_line.Goals as goal
 
 -- a frame that was read and judged
-is_frame : (s : List ℕ) (v : ℕ) (f : declared.Frame) → 16 < length s → get_or s 16 0 ≡ newline → Fields f ≡ reading_of (take 16 s) → v ≡ verdict_on f
+pub is_frame : (s : List ℕ) (v : ℕ) (f : declared.Frame) → 16 < length s → get_or s 16 0 ≡ newline → Fields f ≡ reading_of (take 16 s) → v ≡ verdict_on f
     → Frame v ≡ first_line s
 is_frame s v f l e d w =
     let r = is_fields (take 16 s) f d in
     (frame_first s v).1 (record { digits = r.0; within = l; ends = e; verdict = w ∙ ap verdict_on r.1 ∙ sym (frame (take 16 s) r.0) })
 
 -- something else
-no_digits : (s : List ℕ) → Malformed ≡ reading_of (take 16 s) → Other ≡ first_line s
+pub no_digits : (s : List ℕ) → Malformed ≡ reading_of (take 16 s) → Other ≡ first_line s
 unfolding first_line
 no_digits s d = rw (is_malformed (take 16 s) d)
 
-no_newline : (s : List ℕ) → (get_or s 16 0 ≡ newline → ⊥) → Other ≡ first_line s
+pub no_newline : (s : List ℕ) → (get_or s 16 0 ≡ newline → ⊥) → Other ≡ first_line s
 unfolding first_line
 no_newline s n = rw (ne_eqb (get_or s 16 0) newline n) (go (sixteen_digits (take 16 s)))
   where
@@ -38,18 +38,5 @@ no_newline s n = rw (ne_eqb (get_or s 16 0) newline n) (go (sixteen_digits (take
     go true = refl
     go false = refl
 
-too_short : (s : List ℕ) → length s ≤ 16 → Other ≡ first_line s
+pub too_short : (s : List ℕ) → length s ≤ 16 → Other ≡ first_line s
 too_short s h = no_newline s (λ e. omega (arith, get_or-eq_default s 0 {n = 16} h))
-
-pub returns-in-Fields : goal.returns-in-Fields
-returns-in-Fields c =
-    is_frame c.args.bytes.now c.number.result c.in-Fields.f (omega arith) c.if-bytes-eq10.true c.in-Fields.ensures (c.number.ensures ∙ c.judge_frame.ensures)
-
-pub returns-in_default : goal.returns-in_default
-returns-in_default c = no_digits c.args.bytes.now c.in_default.ensures
-
-pub returns-else-bytes-eq10 : goal.returns-else-bytes-eq10
-returns-else-bytes-eq10 c = no_newline c.args.bytes.now c.if-bytes-eq10.false
-
-pub returns-else-bytes-gt-FRAME : goal.returns-else-bytes-gt-FRAME
-returns-else-bytes-gt-FRAME c = too_short c.args.bytes.now (omega arith)
