@@ -35,6 +35,7 @@ pub fn first_year(c: u64) -> i64
 }
 
 // The last day that has a date in a calendar that is listed.
+#[tactic(auto, using(asking::proofs::Arms::last_ended, asking::proofs::Arms::last_of_all))]
 pub fn last_day(c: u64) -> u64
     ensures { (result ≤ last_day) × OfListed c (λ K. result ≡ last_of K) }
 {
@@ -45,6 +46,7 @@ pub fn last_day(c: u64) -> u64
 }
 
 // The position that is a strip of loose days in a calendar that is listed; 0 where it has none.
+#[tactic(auto, using(asking::proofs::Arms::strip_persian, asking::proofs::Arms::strip_bahai, asking::proofs::Arms::strip_thirteenth, asking::proofs::Arms::strip_none))]
 pub fn strip(c: u64) -> u64
     ensures { OfListed c (λ K. result ≡ strip_or0 K.strip) }
 {

@@ -108,6 +108,7 @@ fn before_end(n: u64) -> u64
 }
 
 // A day of any calendar, 17 and 5 tried.
+#[tactic(auto, using(asking::proofs::Answers::end_of_other))]
 fn limited(calendar: u64, n: u64) -> u64
     ensures { result ≡ end_tried calendar (in_range n) }
 {
