@@ -3,7 +3,7 @@ use Rattle.months.proofs.Gregorian.{long_century, long_usual}
 use Rattle.gregorian_years.proofs.extra_days.Goals as goal
 
 pub returns-then-y-century : goal.returns-then-y-century
-returns-then-y-century c = let s = c.before in (long_century s.args.z _ (omega arith) (λ e. omega arith) (λ e. omega arith), omega arith)
+returns-then-y-century c = (long_century c.args.z _ (omega arith) (λ e. omega arith) (λ e. omega arith), omega arith)
 
 pub returns : goal.returns
-returns c = let s = c.before in (long_usual s.args.z _ (λ e. omega arith) (λ e. omega arith) (λ e. omega arith), omega arith)
+returns c = (long_usual c.args.z _ (λ e. omega arith) (λ e. omega arith) (λ e. omega arith), omega arith)
