@@ -12,7 +12,7 @@ use refusals::Refusal;
 const LAST_DAY: u64 = 5373484;
 
 // A date. Years are signed, and year 0 exists; months and days are counted from 1. Weekdays are 1 Monday to 7 Sunday; 0 hands in none.
-#[derive(Drop)]
+#[derive(Clone, Copy)]
 pub struct Date {
     pub year: i64,
     pub month: u64,
