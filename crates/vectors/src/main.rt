@@ -9,7 +9,7 @@ mod output;
 mod rows;
 mod tables;
 mod tally;
-mod weekdays;
+mod weekday_rows;
 
 fn main(rt: HostRuntime) {
     let mut good = true;

@@ -1,7 +1,7 @@
 // Compares the rows of one table, which is read in parts.
 use crate::rows::{Line, Place};
 use crate::tally::{Finding, Tally};
-use crate::{dates, easters, hebrew_years, rows, tally, weekdays};
+use crate::{dates, easters, hebrew_years, rows, tally, weekday_rows};
 use std::fs;
 use std::io::Read;
 use std::rt::Files;
@@ -36,7 +36,7 @@ fn compare_row(table: Table, line: Line) -> Finding {
         Table::Dates => tally::agrees_if(dates::agrees_with(line)),
         Table::Easters => tally::agrees_if(easters::agrees_with(line)),
         Table::Lengths => hebrew_years::compare_with(line),
-        Table::Weekdays => tally::agrees_if(weekdays::agrees_with(line)),
+        Table::Weekdays => tally::agrees_if(weekday_rows::agrees_with(line)),
     }
 }
 
