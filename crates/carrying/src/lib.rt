@@ -6,7 +6,7 @@ ghost use Rattle.std.specs.Prelude.{◌≡◌, [], ◌++◌, take};
 ghost use Rattle.carrying.specs.Kept.{most, kept_of, line_end, GoneOn};
 
 // What is kept of a line that the pieces so far have not finished: its first bytes, one more than a frame has.
-#[derive(Drop)]
+#[derive(Clone, Copy)]
 pub struct Unfinished {
     pub bytes: [u8; 17],
     pub count: usize,

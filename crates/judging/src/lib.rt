@@ -68,6 +68,7 @@ pub struct Ending {
     pub count: usize,
 }
 
+#[tactic(auto, using(crate::proofs::Finished::no_ending, crate::proofs::Finished::an_ending))]
 pub fn finish(state: Unfinished) -> Ending
     ensures { result ≡ ending_of (kept_of state) }
 {

@@ -33,7 +33,7 @@ pub(crate) fn take_frames(
     at: usize,
 ) -> Reached
     requires from_in_bounds { from ≤ length input.now }
-    requires from_in_bounds_2 { at + (length input.now - from) * 3 ≤ length out.old }
+    requires room { at + (length input.now - from) * 3 ≤ length out.old }
     ensures { TakesFrom state input.now from result.next out.old at state out.new result.written }
 {
     let mut next = from;
@@ -72,7 +72,7 @@ pub(crate) fn take_line(
     at: usize,
 ) -> Taken
     requires from_in_bounds { from < length input.now }
-    requires from_in_bounds_2 { at + (length input.now - from) * 3 ≤ length out.old }
+    requires room { at + (length input.now - from) * 3 ≤ length out.old }
     ensures takes_from { TakesFrom state input.now from result.next out.old at result.state out.new result.written }
     ensures from_lt_next { from < result.next }
 {
