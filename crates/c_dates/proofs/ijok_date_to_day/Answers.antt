@@ -1,4 +1,4 @@
-use Rattle.std.proofs.Common.{◌≡◌, sym, ap, ◌∙◌, ℕ, ◌/◌, ◌%◌}
+use Rattle.std.proofs.Common.{◌≡◌, sym, ap, ◌∙◌, ℕ, ◌/◌, ◌%◌, arith}
 use lib.IntN.{ℤ}
 use mir.Syntax.{w64}
 use mir.ValLaws.{to_z-of_z}
@@ -18,7 +18,9 @@ split c y m d w r x p e = (λ i. record { number = p.0 i; day = p.1 i }) ∙ fie
 pub returns-then-weekday-eq0 : goal.returns-then-weekday-eq0
 returns-then-weekday-eq0 c =
     let a = c.args in
-    rw (c.if-calendar-eq18.true, c.if-weekday-eq0.true)
+    let e : a.calendar ≡ 18 = omega arith in
+    let f : a.weekday ≡ 0 = omega arith in
+    rw (e, f)
     (split 18 a.year a.month a.day 0 c.hebrew_day.result c.day_fields.result c.day_fields.ensures
     ((rw (to_z-of_z w64 a.year c.ranges.year) at c.hebrew_day.ensures) ∙ ap packed_day (sym (no_weekday 18 a.year a.month a.day))))
 
