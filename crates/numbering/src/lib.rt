@@ -67,7 +67,8 @@ fn month_in(c: u64, y: u16, p: u64) -> Month
     ensures { Sought c (year_at (negsuc 4711) y) (λ K i. MonthOf K i p result.start result.days) result.days }
 {
     if c != 10 {
-        if y < 4713 {
+        let early = y < 4713;
+        if early {
             return none();
         }
         return later_month(c, y - 4713, p);
