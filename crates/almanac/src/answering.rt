@@ -6,11 +6,17 @@ use codes::MOST_LENGTHS;
 use printing::{Sink, put};
 use words::Request;
 
-fn answer_day(sink: Sink, count: usize, numbers: &[u64; MOST_NUMBERS], out: &mut [u8]) -> Sink {
+fn answer_day(
+    rt: &impl Print,
+    sink: Sink,
+    count: usize,
+    numbers: &[u64; MOST_NUMBERS],
+    out: &mut [u8],
+) -> Sink {
     if count < 2 {
-        return dates::answer_day(sink, numbers[0], out);
+        return dates::answer_day(rt, sink, numbers[0], out);
     }
-    dates::answer_day_in(sink, numbers[0], numbers[1], out)
+    dates::answer_day_in(rt, sink, numbers[0], numbers[1], out)
 }
 
 fn date(year: i64, weekday: u64, numbers: &[u64; MOST_NUMBERS]) -> Date {
@@ -22,11 +28,23 @@ fn date(year: i64, weekday: u64, numbers: &[u64; MOST_NUMBERS]) -> Date {
     }
 }
 
-fn answer_fit(sink: Sink, count: usize, numbers: &[u64; MOST_NUMBERS], out: &mut [u8]) -> Sink {
-    fits::answer_fit(sink, fits::front(numbers, count), out)
+fn answer_fit(
+    rt: &impl Print,
+    sink: Sink,
+    count: usize,
+    numbers: &[u64; MOST_NUMBERS],
+    out: &mut [u8],
+) -> Sink {
+    fits::answer_fit(rt, sink, fits::front(numbers, count), out)
 }
 
-fn answer_unfold(sink: Sink, count: usize, numbers: &[u64; MOST_NUMBERS], out: &mut [u8]) -> Sink {
+fn answer_unfold(
+    rt: &impl Print,
+    sink: Sink,
+    count: usize,
+    numbers: &[u64; MOST_NUMBERS],
+    out: &mut [u8],
+) -> Sink {
     let line = codes::Line {
         a: numbers[0],
         b: numbers[1],
@@ -34,44 +52,52 @@ fn answer_unfold(sink: Sink, count: usize, numbers: &[u64; MOST_NUMBERS], out: &
     };
     let places = numbers[3] as usize;
     if count < 5 {
-        return fits::answer_unfold(sink, line, places, MOST_LENGTHS, out);
+        return fits::answer_unfold(rt, sink, line, places, MOST_LENGTHS, out);
     }
-    fits::answer_unfold(sink, line, places, numbers[4] as usize, out)
+    fits::answer_unfold(rt, sink, line, places, numbers[4] as usize, out)
 }
 
 // The list of requests.
-pub(crate) fn put_help(sink: Sink, out: &mut [u8]) -> Sink {
-    put(help::put_help(sink, out), b'\n', out)
+pub(crate) fn put_help(rt: &impl Print, sink: Sink, out: &mut [u8]) -> Sink {
+    put(rt, help::put_help(rt, sink, out), b'\n', out)
 }
 
 // A request whose form is filled.
-fn answer_request(sink: Sink, asked: Asked, numbers: &[u64; MOST_NUMBERS], out: &mut [u8]) -> Sink {
+fn answer_request(
+    rt: &impl Print,
+    sink: Sink,
+    asked: Asked,
+    numbers: &[u64; MOST_NUMBERS],
+    out: &mut [u8],
+) -> Sink {
     let request = asked.request;
     let count = asked.count;
     let first = numbers[0];
     match request {
-        Request::Day => answer_day(sink, count, numbers, out),
+        Request::Day => answer_day(rt, sink, count, numbers, out),
         Request::Date => dates::answer_date(
+            rt,
             sink,
             first,
             date(asked.year, asked.weekday, numbers),
             asked.all,
             out,
         ),
-        Request::Months => dates::answer_months(sink, first, asked.year, out),
-        Request::Easter => dates::answer_easter(sink, asked.year, out),
-        Request::Frame => dates::answer_frame(sink, first, date(asked.year, 0, numbers), out),
-        Request::Fit => answer_fit(sink, count, numbers, out),
-        Request::Unfold => answer_unfold(sink, count, numbers, out),
-        Request::Calendars => dates::answer_calendars(sink, out),
-        Request::Answers => dates::answer_answers(sink, out),
-        Request::Help => put_help(sink, out),
+        Request::Months => dates::answer_months(rt, sink, first, asked.year, out),
+        Request::Easter => dates::answer_easter(rt, sink, asked.year, out),
+        Request::Frame => dates::answer_frame(rt, sink, first, date(asked.year, 0, numbers), out),
+        Request::Fit => answer_fit(rt, sink, count, numbers, out),
+        Request::Unfold => answer_unfold(rt, sink, count, numbers, out),
+        Request::Calendars => dates::answer_calendars(rt, sink, out),
+        Request::Answers => dates::answer_answers(rt, sink, out),
+        Request::Help => put_help(rt, sink, out),
         Request::Unknown => sink,
     }
 }
 
 // A line of which no byte is left. `length` and `shown` are its last token, where that did not fit.
 pub(crate) fn answer(
+    rt: &impl Print,
     sink: Sink,
     line: Line,
     length: usize,
@@ -80,14 +106,14 @@ pub(crate) fn answer(
     out: &mut [u8],
 ) -> Sink {
     match line {
-        Line::Wrong(request) => output::put_wrong(sink, request, length, shown, out),
+        Line::Wrong(request) => output::put_wrong(rt, sink, request, length, shown, out),
         Line::Fitting(asked) => {
             let request = asked.request;
             if asked.count < crate::forms::least_arguments(request) {
-                return output::put_too_short(sink, request, out);
+                return output::put_too_short(rt, sink, request, out);
             }
-            answer_request(sink, asked, numbers, out)
+            answer_request(rt, sink, asked, numbers, out)
         }
-        _ => output::put_empty(sink, out),
+        _ => output::put_empty(rt, sink, out),
     }
 }

@@ -1,7 +1,9 @@
 // A request that the program's arguments are.
-use crate::lines::{State, Turn, after_blank, answered, next_place, take_token};
+use crate::line_state::{State, Turn, after_blank, answered, next_place, take_token};
 use crate::reading::{MOST_NUMBERS, MOST_SHOWN};
 use printing::Sink;
+use std::env::FillError;
+use std::rt::Env;
 
 // An argument. A newline in it counts as a blank, and so does its end: the arguments are one request.
 fn take_argument(
@@ -23,25 +25,46 @@ fn take_argument(
 
 // The argument at a place, if the buffer holds it.
 fn take_argument_at(
+    rt: &(impl Env + Eprint),
     state: State,
     place: usize,
     input: &mut [u8],
     numbers: &mut [u64; MOST_NUMBERS],
     shown: &mut [u8; MOST_SHOWN],
 ) -> Turn {
-    let n = os::arg(place, input);
-    if os::errno() != 0 {
-        stdio::fail(b"almanac", b"read", b"an argument");
-        return Turn { state, more: false };
-    }
-    let next = take_argument(state, &input[..n], numbers, shown);
-    Turn {
-        state: next,
-        more: true,
+    match rt.arg(place, input) {
+        Ok(n) => Turn {
+            state: take_argument(state, &input[..n], numbers, shown),
+            more: true,
+        },
+        Err(_) => {
+            stdio::fail(rt, b"almanac", b"read", b"an argument");
+            Turn { state, more: false }
+        }
     }
 }
 
+// Whether there is no argument at a place. Into no room only an empty one fits.
+fn is_missing(rt: &impl Env, place: usize) -> bool {
+    let mut room = [0u8; 0];
+    match rt.arg(place, &mut room) {
+        Err(FillError::NotPresent) => true,
+        _ => false,
+    }
+}
+
+// How many arguments there are, the program's name among them.
+pub(crate) fn count(rt: &impl Env) -> usize {
+    for place in 0..usize::MAX {
+        if is_missing(rt, place) {
+            return place;
+        }
+    }
+    usize::MAX
+}
+
 pub(crate) fn take_arguments(
+    rt: &(impl Env + Eprint),
     start: State,
     count: usize,
     input: &mut [u8],
@@ -51,7 +74,7 @@ pub(crate) fn take_arguments(
     let mut state = start;
     let mut more = true;
     for place in 1..count {
-        let done = take_argument_at(state, place, input, numbers, shown);
+        let done = take_argument_at(rt, state, place, input, numbers, shown);
         state = done.state;
         more = done.more;
         if !more {
@@ -63,15 +86,16 @@ pub(crate) fn take_arguments(
 
 // The answer to the arguments. A word that is no request's is answered with the list of requests.
 pub(crate) fn answer_arguments(
+    rt: &impl Print,
     state: State,
     numbers: &mut [u64; MOST_NUMBERS],
     shown: &[u8; MOST_SHOWN],
     out: &mut [u8],
 ) -> Sink {
     let line = state.line;
-    let sink = answered(state, numbers, shown, out);
+    let sink = answered(rt, state, numbers, shown, out);
     if crate::reading::is_unknown_word(line) {
-        return printing::flush(crate::answering::put_help(sink, out), out);
+        return printing::flush(rt, crate::answering::put_help(rt, sink, out), out);
     }
-    printing::flush(sink, out)
+    printing::flush(rt, sink, out)
 }

@@ -15,17 +15,22 @@ pub(crate) fn front(numbers: &[u64], count: usize) -> &[u64] {
 }
 
 // 0 and the numbers.
-fn put_done(sink: Sink, numbers: &[u64], out: &mut [u8]) -> Sink {
-    put(put_numbers(put(sink, b'0', out), numbers, out), b'\n', out)
+fn put_done(rt: &impl Print, sink: Sink, numbers: &[u64], out: &mut [u8]) -> Sink {
+    put(
+        rt,
+        put_numbers(rt, put(rt, sink, b'0', out), numbers, out),
+        b'\n',
+        out,
+    )
 }
 
-pub(crate) fn answer_fit(sink: Sink, code: &[u64], out: &mut [u8]) -> Sink {
+pub(crate) fn answer_fit(rt: &impl Print, sink: Sink, code: &[u64], out: &mut [u8]) -> Sink {
     match fitting::fit(code) {
         Fitted::By(line) => {
             let values = [line.a, line.b, line.r];
-            put_done(sink, &values, out)
+            put_done(rt, sink, &values, out)
         }
-        Fitted::Refused(why) => put_refusal(sink, why, out),
+        Fitted::Refused(why) => put_refusal(rt, sink, why, out),
     }
 }
 
@@ -39,6 +44,7 @@ fn unfold_within(room: usize, line: Line, count: usize, lengths: &mut [u64]) -> 
 }
 
 pub(crate) fn answer_unfold(
+    rt: &impl Print,
     sink: Sink,
     line: Line,
     count: usize,
@@ -48,7 +54,7 @@ pub(crate) fn answer_unfold(
     let mut space = [0u64; MOST_LENGTHS];
     let lengths: &mut [u64] = &mut space;
     match unfold_within(room, line, count, lengths) {
-        Unfolded::Done => put_done(sink, front(lengths, count), out),
-        Unfolded::Refused(why) => put_refusal(sink, why, out),
+        Unfolded::Done => put_done(rt, sink, front(lengths, count), out),
+        Unfolded::Refused(why) => put_refusal(rt, sink, why, out),
     }
 }

@@ -2,7 +2,7 @@
 use words::Request;
 
 // What may stand in a place.
-#[derive(Drop)]
+#[derive(Clone, Copy)]
 pub(crate) enum Argument {
     Natural,
     Year,

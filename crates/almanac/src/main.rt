@@ -8,35 +8,39 @@ mod fits;
 mod forms;
 mod help;
 mod input;
-mod lines;
+mod line_state;
 mod output;
 mod reading;
 
 use crate::reading::{MOST_NUMBERS, MOST_SHOWN};
 use printing::Sink;
+use std::io::Read;
+use std::rt::Env;
 
 // Answers the arguments where there are any, and else standard input.
 fn run(
+    rt: &(impl Print + Eprint + Env),
+    from: &mut impl Read,
     count: usize,
     input: &mut [u8],
     numbers: &mut [u64; MOST_NUMBERS],
     shown: &mut [u8; MOST_SHOWN],
     out: &mut [u8],
 ) -> Sink {
-    let start = lines::fresh(printing::start());
+    let start = line_state::fresh(printing::start());
     if count < 2 {
-        let rest = input::answer_input(start, input, numbers, shown, out);
-        return input::answer_rest(rest, numbers, shown, out);
+        let rest = input::answer_input(rt, from, start, input, numbers, shown, out);
+        return input::answer_rest(rt, rest, numbers, shown, out);
     }
-    let taken = arguments::take_arguments(start, count, input, numbers, shown);
+    let taken = arguments::take_arguments(rt, start, count, input, numbers, shown);
     let state = taken.state;
     if taken.more {
-        return arguments::answer_arguments(state, numbers, shown, out);
+        return arguments::answer_arguments(rt, state, numbers, shown, out);
     }
     printing::start()
 }
 
-fn main() {
+fn main(rt: HostRuntime) {
     let mut input_space = [0u8; 16384];
     let mut number_space = [0u64; MOST_NUMBERS];
     let mut shown_space = [0u8; MOST_SHOWN];
@@ -45,6 +49,15 @@ fn main() {
     let numbers: &mut [u64; MOST_NUMBERS] = &mut number_space;
     let shown: &mut [u8; MOST_SHOWN] = &mut shown_space;
     let out: &mut [u8] = &mut out_space;
-    let sink = run(os::arg_count(), input, numbers, shown, out);
-    printing::end(b"almanac", sink);
+    let mut from = rt.stdin();
+    let sink = run(
+        &rt,
+        &mut from,
+        arguments::count(&rt),
+        input,
+        numbers,
+        shown,
+        out,
+    );
+    printing::end(&rt, b"almanac", sink);
 }

@@ -10,14 +10,14 @@ use words::Request;
 // No line of an answer is as long, but for lengths, which are written one by one.
 pub(crate) const LINE: usize = 128;
 
-pub(crate) fn put_line(sink: Sink, line: &[u8], out: &mut [u8]) -> Sink {
-    put(put_all(sink, line, out), b'\n', out)
+pub(crate) fn put_line(rt: &impl Print, sink: Sink, line: &[u8], out: &mut [u8]) -> Sink {
+    put(rt, put_all(rt, sink, line, out), b'\n', out)
 }
 
-pub(crate) fn put_refusal(sink: Sink, why: Refusal, out: &mut [u8]) -> Sink {
+pub(crate) fn put_refusal(rt: &impl Print, sink: Sink, why: Refusal, out: &mut [u8]) -> Sink {
     let mut line = [0u8; LINE];
     let n = answer_lines::refusal_line(why, &mut line);
-    put_line(sink, &line[..n], out)
+    put_line(rt, sink, &line[..n], out)
 }
 
 // What would move the cursor of a terminal, or is no text there, is shown as a question mark.
@@ -41,48 +41,68 @@ fn kept(length: usize) -> usize
     MOST_SHOWN
 }
 
-fn put_kept(start: Sink, length: usize, shown: &[u8; MOST_SHOWN], out: &mut [u8]) -> Sink {
+fn put_kept(
+    rt: &impl Print,
+    start: Sink,
+    length: usize,
+    shown: &[u8; MOST_SHOWN],
+    out: &mut [u8],
+) -> Sink {
     let mut sink = start;
     for k in 0..kept(length) {
-        sink = put(sink, printable(shown[k]), out);
+        sink = put(rt, sink, printable(shown[k]), out);
     }
     sink
 }
 
-fn put_token(sink: Sink, length: usize, shown: &[u8; MOST_SHOWN], out: &mut [u8]) -> Sink {
-    let text = put_kept(put_all(sink, b"not a request: \"", out), length, shown, out);
+fn put_token(
+    rt: &impl Print,
+    sink: Sink,
+    length: usize,
+    shown: &[u8; MOST_SHOWN],
+    out: &mut [u8],
+) -> Sink {
+    let text = put_kept(
+        rt,
+        put_all(rt, sink, b"not a request: \"", out),
+        length,
+        shown,
+        out,
+    );
     if MOST_SHOWN < length {
-        return put_all(text, b"..\"; ", out);
+        return put_all(rt, text, b"..\"; ", out);
     }
-    put_all(text, b"\"; ", out)
+    put_all(rt, text, b"\"; ", out)
 }
 
-fn put_right_form(sink: Sink, request: Request, out: &mut [u8]) -> Sink {
+fn put_right_form(rt: &impl Print, sink: Sink, request: Request, out: &mut [u8]) -> Sink {
     match request {
-        Request::Unknown => put_all(sink, b"help lists the requests", out),
-        _ => help::put_form(put_all(sink, b"the form is ", out), request, out),
+        Request::Unknown => put_all(rt, sink, b"help lists the requests", out),
+        _ => help::put_form(rt, put_all(rt, sink, b"the form is ", out), request, out),
     }
 }
 
 // A token that does not fit.
 pub(crate) fn put_wrong(
+    rt: &impl Print,
     sink: Sink,
     request: Request,
     length: usize,
     shown: &[u8; MOST_SHOWN],
     out: &mut [u8],
 ) -> Sink {
-    let said = put_token(sink, length, shown, out);
-    put(put_right_form(said, request, out), b'\n', out)
+    let said = put_token(rt, sink, length, shown, out);
+    put(rt, put_right_form(rt, said, request, out), b'\n', out)
 }
 
-pub(crate) fn put_too_short(sink: Sink, request: Request, out: &mut [u8]) -> Sink {
-    let said = put_all(sink, b"not a request: it ends too soon; ", out);
-    put(put_right_form(said, request, out), b'\n', out)
+pub(crate) fn put_too_short(rt: &impl Print, sink: Sink, request: Request, out: &mut [u8]) -> Sink {
+    let said = put_all(rt, sink, b"not a request: it ends too soon; ", out);
+    put(rt, put_right_form(rt, said, request, out), b'\n', out)
 }
 
-pub(crate) fn put_empty(sink: Sink, out: &mut [u8]) -> Sink {
+pub(crate) fn put_empty(rt: &impl Print, sink: Sink, out: &mut [u8]) -> Sink {
     put_all(
+        rt,
         sink,
         b"not a request: an empty line; help lists the requests\n",
         out,

@@ -16,7 +16,7 @@ pub(crate) const MOST_SHOWN: usize = 64;
 const LAST_PLACE: usize = 6;
 
 // The bytes since a blank: what they are as a number and as a word, and how many are kept; one more where some are not.
-#[derive(Drop)]
+#[derive(Clone, Copy)]
 pub(crate) struct Token {
     number: Number,
     word: Word,
@@ -24,7 +24,7 @@ pub(crate) struct Token {
 }
 
 // A request whose tokens so far fit: how many places of its form are filled, and of those what does not go to the lent numbers.
-#[derive(Drop)]
+#[derive(Clone, Copy)]
 pub(crate) struct Asked {
     pub(crate) request: Request,
     pub(crate) count: usize,
@@ -34,7 +34,7 @@ pub(crate) struct Asked {
 }
 
 // How far a line is understood.
-#[derive(Drop)]
+#[derive(Clone, Copy)]
 pub(crate) enum Line {
     // No token is ended, and no blank came.
     Start,
@@ -45,7 +45,7 @@ pub(crate) enum Line {
     Wrong(Request),
 }
 
-#[derive(Drop)]
+#[derive(Clone, Copy)]
 enum Value {
     Is(u64),
     Not,

@@ -7,7 +7,7 @@ ghost use Rattle.decimal.specs.Decimal.{capped, number_of, pushed, integer_of, c
 ghost use Rattle.decimal.specs.Inner.{low_digits, Counts};
 
 // What some bytes are, read so far.
-#[derive(Drop)]
+#[derive(Clone, Copy)]
 pub enum Number {
     // No byte.
     Empty,

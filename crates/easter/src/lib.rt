@@ -8,13 +8,13 @@ ghost use Rattle.easter.specs.Years.{year_from};
 
 use refusals::Refusal;
 
-#[derive(Drop)]
+#[derive(Clone, Copy)]
 pub struct MonthDay {
     pub month: u64,
     pub day: u64,
 }
 
-#[derive(Drop)]
+#[derive(Clone, Copy)]
 pub enum EasterDate {
     On(MonthDay),
     Refused(Refusal),

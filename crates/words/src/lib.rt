@@ -64,7 +64,7 @@ const REQUESTS: [u64; 13] = [
 const ALL: u64 = 1420;
 
 // What some bytes are, read so far.
-#[derive(Drop)]
+#[derive(Clone, Copy)]
 pub enum Word {
     // So many letters, packed; 0 before the first.
     Letters(u64),

@@ -5,7 +5,7 @@ use crate::reading::{Line, MOST_NUMBERS, MOST_SHOWN, Token};
 use printing::Sink;
 
 // Between two bytes: the token that is being read, how far the line is understood, and what waits to be written.
-#[derive(Drop)]
+#[derive(Clone, Copy)]
 pub(crate) struct State {
     pub(crate) token: Token,
     pub(crate) line: Line,
@@ -13,7 +13,7 @@ pub(crate) struct State {
 }
 
 // What one reading or one argument leaves, and whether there is to be another.
-#[derive(Drop)]
+#[derive(Clone, Copy)]
 pub(crate) struct Turn {
     pub(crate) state: State,
     pub(crate) more: bool,
@@ -53,6 +53,7 @@ pub(crate) fn take_token(state: State, bytes: &[u8], shown: &mut [u8; MOST_SHOWN
 
 // The answer to a line of which no byte is left.
 pub(crate) fn answered(
+    rt: &impl Print,
     state: State,
     numbers: &mut [u64; MOST_NUMBERS],
     shown: &[u8; MOST_SHOWN],
@@ -62,7 +63,7 @@ pub(crate) fn answered(
     let token = ended.token;
     let line = ended.line;
     let sink = ended.sink;
-    crate::answering::answer(sink, line, token.length, numbers, shown, out)
+    crate::answering::answer(rt, sink, line, token.length, numbers, shown, out)
 }
 
 // The place after one, or the end.
