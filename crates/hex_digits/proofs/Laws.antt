@@ -59,7 +59,9 @@ spread n d p = omega arith
 number_from_lem : (n : ℕ) (s : List ℕ) → number_from n s ≡ n * 16 ^ length s + number_in s
 unfolding number_from
 number_from_lem n [] = omega arith
-number_from_lem n (b ∷ s) = rw pow-suc (omega (arith, number_from_lem (n * 16 + digit_of b) s, number_from_lem (0 + digit_of b) s, spread n (digit_of b) (16 ^ length s)))
+number_from_lem n (b ∷ s) =
+    rw pow-suc
+    (omega (arith, number_from_lem (n * 16 + digit_of b) s, number_from_lem (0 + digit_of b) s, spread n (digit_of b) (16 ^ length s)))
 
 pub number_most : (s : List ℕ) → all_digits s ≡ true → number_in s < 16 ^ length s
 unfolding number_from all_digits

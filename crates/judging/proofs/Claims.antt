@@ -60,4 +60,5 @@ by_pieces (judge {u} {piece} {out} {out'} {r} {rest} {written} j run) =
 -- However the input comes in pieces, and whatever buffers are lent, what a run from the first state writes is the output for the whole.
 pub whole : {u : Unfinished} {ps : List (List ℕ)} {written : List ℕ} → kept_of u ≡ [] → Run u ps written → written ≡ sheet_of (joined ps)
 unfolding sheet_of
-whole {u} {ps} {written} e run = by_pieces run ∙ ap (λ (l : List ℕ). in_pieces judging most tt l ps) e ∙ (in_any_pieces judging most (omega arith) reads tt ps).0
+whole {u} {ps} {written} e run =
+    by_pieces run ∙ ap (λ (l : List ℕ). in_pieces judging most tt l ps) e ∙ (in_any_pieces judging most (omega arith) reads tt ps).0
