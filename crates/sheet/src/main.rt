@@ -7,6 +7,7 @@ ghost use Rattle.judging.specs.Piece.{Judged};
 
 use carrying::Unfinished;
 use judging::Progress;
+use std::io::Read;
 
 // Judges a piece for whose answers output has room: all of it is taken.
 fn judge(state: Unfinished, piece: &[u8], output: &mut [u8]) -> Progress
@@ -17,7 +18,7 @@ fn judge(state: Unfinished, piece: &[u8], output: &mut [u8]) -> Progress
 }
 
 // What one turn leaves: the state for the next, and whether there is one.
-#[derive(Drop)]
+#[derive(Clone, Copy)]
 struct Turn {
     state: Unfinished,
     more: bool,
@@ -25,10 +26,16 @@ struct Turn {
 
 // Reads once, judges what came, and writes the answers before the next read. Where a read or a write fails nothing more is written:
 // how the unfinished line goes on is not known.
-fn read_some(state: Unfinished, input: &mut [u8], output: &mut [u8]) -> Turn
+fn read_some(
+    rt: &(impl Print + Eprint),
+    from: &mut impl Read,
+    state: Unfinished,
+    input: &mut [u8],
+    output: &mut [u8],
+) -> Turn
     requires { length input.old * 3 ≤ length output.old }
 {
-    let got = stdio::read(b"sheet", input);
+    let got = stdio::read(rt, from, b"sheet", input);
     let n = got.count;
     if got.failed {
         return Turn {
@@ -42,7 +49,7 @@ fn read_some(state: Unfinished, input: &mut [u8], output: &mut [u8]) -> Turn
     let done = judge(state, &input[..n], output);
     let next = done.state;
     let written = done.written;
-    if stdio::write(b"sheet", &output[..written]) {
+    if stdio::write(rt, b"sheet", &output[..written]) {
         return Turn {
             state: next,
             more: true,
@@ -55,13 +62,18 @@ fn read_some(state: Unfinished, input: &mut [u8], output: &mut [u8]) -> Turn
 }
 
 // Nothing says that an input ends, and a proved loop has to: it counts its turns down, from a number that no run uses up.
-fn read_all(input: &mut [u8], output: &mut [u8]) -> Unfinished
+fn read_all(
+    rt: &(impl Print + Eprint),
+    from: &mut impl Read,
+    input: &mut [u8],
+    output: &mut [u8],
+) -> Unfinished
     requires { length input.old * 3 ≤ length output.old }
 {
     let mut state = Unfinished::new();
     let mut turns = u64::MAX;
     while turns > 0 {
-        let done = read_some(state, input, output);
+        let done = read_some(rt, from, state, input, output);
         let next = done.state;
         state = next;
         if !done.more {
@@ -72,12 +84,13 @@ fn read_all(input: &mut [u8], output: &mut [u8]) -> Unfinished
     state
 }
 
-// The two buffers have 56 KiB together; `io::write_all` takes 4 more where a write is cut short.
-fn main() {
+// The two buffers have 56 KiB together.
+fn main(rt: HostRuntime) {
     let mut input = [0u8; 14336];
     let mut output = [0u8; 43008];
-    let last = judging::finish(read_all(&mut input, &mut output));
+    let mut from = rt.stdin();
+    let last = judging::finish(read_all(&rt, &mut from, &mut input, &mut output));
     let bytes = last.bytes;
     let count = last.count;
-    stdio::write(b"sheet", &bytes[..count]);
+    stdio::write(&rt, b"sheet", &bytes[..count]);
 }
