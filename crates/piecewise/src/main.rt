@@ -12,12 +12,12 @@ fn least(a: usize, b: usize) -> usize
     if a < b { a } else { b }
 }
 
-fn write(bytes: &[u8]) -> bool {
-    stdio::write(b"piecewise", bytes)
+fn write(rt: &(impl Print + Eprint), bytes: &[u8]) -> bool {
+    stdio::write(rt, b"piecewise", bytes)
 }
 
 // The whole input in pieces of `size` bytes, or of fewer where the output has no room for their answers. Answers whether all was written.
-fn run(input: &[u8], size: usize, output: &mut [u8]) -> bool {
+fn run(rt: &(impl Print + Eprint), input: &[u8], size: usize, output: &mut [u8]) -> bool {
     let mut state = Unfinished::new();
     let mut at = 0;
     while at < input.len() {
@@ -27,7 +27,7 @@ fn run(input: &[u8], size: usize, output: &mut [u8]) -> bool {
         let written = done.written;
         let consumed = done.consumed;
         let next = done.state;
-        if !write(&output[..written]) {
+        if !write(rt, &output[..written]) {
             return false;
         }
         if consumed == 0 {
@@ -39,24 +39,24 @@ fn run(input: &[u8], size: usize, output: &mut [u8]) -> bool {
     let last = judging::finish(state);
     let bytes = last.bytes;
     let count = last.count;
-    write(&bytes[..count])
+    write(rt, &bytes[..count])
 }
 
-fn main() {
+fn main(rt: HostRuntime) {
     let example = b"0b1a380101256859\n0b1a38010125685a\nxyz";
     let mut small = [0u8; 3];
     let mut middle = [0u8; 16];
     let mut large = [0u8; 128];
     for size in 1..40 {
-        if !run(example, size, &mut small) {
+        if !run(&rt, example, size, &mut small) {
             return;
         }
-        if !run(example, size, &mut middle) {
+        if !run(&rt, example, size, &mut middle) {
             return;
         }
-        if !run(example, size, &mut large) {
+        if !run(&rt, example, size, &mut large) {
             return;
         }
     }
-    run(b"", 1, &mut large);
+    run(&rt, b"", 1, &mut large);
 }
