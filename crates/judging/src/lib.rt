@@ -2,14 +2,14 @@
 // `proofs/Claims.antt` is the page to read first.
 #![tactic(auto)]
 
-mod lines;
+mod taking;
 
 ghost use Rattle.std.specs.Prelude.{◌≡◌, ◌*◌, ◌≤◌, min, length};
 ghost use Rattle.carrying.specs.Kept.{kept_of};
 ghost use Rattle.judging.specs.Piece.{taken, Judged, ending_of};
 
 use carrying::Unfinished;
-use lines::{put, take_frames, take_line};
+use taking::{put, take_frames, take_line};
 
 // What a call has done with a piece: the state for the next, how many bytes of the piece it took, and how many it wrote.
 #[derive(Drop)]

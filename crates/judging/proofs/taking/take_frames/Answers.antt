@@ -9,8 +9,8 @@ use Rattle.carrying.proofs.Kept.{kept_few, none_kept}
 use Rattle.replying.specs.Sheet.{judging}
 use Rattle.replying.proofs.Claims.{reads, Begins}
 use Rattle.judging.proofs.Piece.{room, frame_at, frame_taken}
-use Rattle.judging.proofs.lines.take_frames.Goals as goal
-use Rattle.judging.proofs.lines.take_frames.Goals.{In-Frame}
+use Rattle.judging.proofs.taking.take_frames.Goals as goal
+use Rattle.judging.proofs.taking.take_frames.Goals.{In-Frame}
 
 pub returns-then-state-ne0 : goal.returns-then-state-ne0
 returns-then-state-ne0 c = none_from judging most tt _ _ _ (omega arith) (kept_few c.args.state (search rules)) (omega arith)

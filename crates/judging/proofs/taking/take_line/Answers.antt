@@ -8,8 +8,8 @@ use Rattle.replying.specs.Sheet.{judging}
 use Rattle.replying.proofs.Claims.{reads}
 use Rattle.judging.specs.Inner.{TakesFrom}
 use Rattle.judging.proofs.Piece.{line_taken, line_ends, newline_taken}
-use Rattle.judging.proofs.lines.take_line.Goals as goal
-use Rattle.judging.proofs.lines.take_line.Goals.{After-go_on-part}
+use Rattle.judging.proofs.taking.take_line.Goals as goal
+use Rattle.judging.proofs.taking.take_line.Goals.{After-go_on-part}
 
 -- the line as far as the input has it
 line : (c : After-go_on-part)

@@ -7,7 +7,7 @@ use lib.ListN.{set, length, take, drop}
 use lib.Seq.{sets-eq}
 use Rattle.hex_digits.specs.Digits.{hex_byte, written_in}
 use Rattle.replying.specs.Sheet.{two_digits}
-use Rattle.judging.proofs.lines.put.Goals as goal
+use Rattle.judging.proofs.taking.put.Goals as goal
 
 -- three bytes stored one after the other
 three : (l : List ℕ) (at a b x : ℕ) → at + 3 ≤ length l → set (set (set l at a) (at + 1) b) (at + 2) x ≡ take at l ++ (a ∷ b ∷ x ∷ drop (at + 3) l)

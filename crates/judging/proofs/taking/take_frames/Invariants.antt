@@ -4,7 +4,7 @@ use lib.ListN.{length}
 use Rattle.streaming.specs.Work.{WorkedFrom}
 use Rattle.carrying.specs.Kept.{most}
 use Rattle.replying.specs.Sheet.{judging}
-use Rattle.judging.proofs.lines.take_frames.Given as goal
+use Rattle.judging.proofs.taking.take_frames.Given as goal
 
 -- what was to be done with the frames passed is done
 abbrev pub invariant-loop-n : goal.invariant-loop-n
