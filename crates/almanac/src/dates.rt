@@ -1,117 +1,60 @@
 // Days, dates, years, Easter and frames.
-use crate::output::{LINE, put_line, put_refusal};
-use calendars::{Date, Dated, Day, Position};
-use easter::EasterDate;
+use crate::output::{write_line, write_refusal};
+use calendars::{Date, MOST_POSITIONS};
+use easter::MonthDay;
 use frames::Frame;
-use printing::{Sink, put, put_all, put_number};
+use listing::{CALENDARS, Calendar};
+use refusals::Refusal;
+use std::io;
+use std::io::Write;
 
-const JULIAN: u64 = 10;
+// Calendars by their numbers, as `calendars` and `easter` take them.
+const JULIAN: u64 = Calendar::Julian as u64;
 
-const GREGORIAN: u64 = 11;
+const GREGORIAN: u64 = Calendar::Gregorian as u64;
 
-// No calendar has more positions.
-const MOST_POSITIONS: u64 = 20;
+// The answer numbers in the order of the table: 0, which is no refusal's, and those of the refusals. `answer_row` takes a number.
+const ANSWERS: [u64; 14] = [0, 1, 2, 3, 4, 5, 6, 7, 8, 9, 10, 11, 13, 17];
 
-fn put_day(rt: &impl Print, sink: Sink, answer: Day, out: &mut [u8]) -> Sink {
-    let mut line = [0u8; LINE];
-    let n = answer_lines::day_line(answer, &mut line);
-    put_line(rt, sink, &line[..n], out)
+fn write_day(out: &mut impl Write, answer: Result<u64, Refusal>) -> io::Result<()> {
+    write_line(out, |line| answer_lines::day_line(answer, line))
 }
 
 // The day in one calendar.
-pub(crate) fn answer_day_in(
-    rt: &impl Print,
-    sink: Sink,
-    day: u64,
-    calendar: u64,
-    out: &mut [u8],
-) -> Sink {
-    let mut line = [0u8; LINE];
-    let n = answer_lines::date_line(calendars::day_to_date(calendar, day), &mut line);
-    put_line(rt, sink, &line[..n], out)
-}
-
-fn put_calendar(rt: &impl Print, sink: Sink, calendar: u64, day: u64, out: &mut [u8]) -> Sink {
-    let mut line = [0u8; LINE];
-    let n = answer_lines::calendar_row(calendar, calendars::day_to_date(calendar, day), &mut line);
-    put_line(rt, sink, &line[..n], out)
+pub(crate) fn answer_day_in(out: &mut impl Write, day: u64, calendar: u64) -> io::Result<()> {
+    let answer = calendars::day_to_date(calendar, day);
+    write_line(out, |line| answer_lines::date_line(answer, line))
 }
 
 // The day and its weekday, and a row for each calendar.
-fn put_whole_day(rt: &impl Print, sink: Sink, day: u64, out: &mut [u8]) -> Sink {
-    put_table(
-        rt,
-        put_day(rt, sink, Day::Number(day), out),
-        Table::Day(day),
-        out,
-    )
+fn write_whole_day(out: &mut impl Write, day: u64) -> io::Result<()> {
+    write_day(out, Ok(day))?;
+    for calendar in CALENDARS {
+        let number = calendar as u64;
+        let answer = calendars::day_to_date(number, day);
+        write_line(out, |line| answer_lines::calendar_row(number, answer, line))?;
+    }
+    Ok(())
 }
 
 // The Julian calendar has every day: what it refuses, all do.
-pub(crate) fn answer_day(rt: &impl Print, sink: Sink, day: u64, out: &mut [u8]) -> Sink {
+pub(crate) fn answer_day(out: &mut impl Write, day: u64) -> io::Result<()> {
     match calendars::day_to_date(JULIAN, day) {
-        Dated::On(_) => put_whole_day(rt, sink, day, out),
-        Dated::Refused(why) => put_refusal(rt, sink, why, out),
+        Ok(_) => write_whole_day(out, day),
+        Err(why) => write_refusal(out, why),
     }
 }
 
 pub(crate) fn answer_date(
-    rt: &impl Print,
-    sink: Sink,
+    out: &mut impl Write,
     calendar: u64,
     date: Date,
     all: bool,
-    out: &mut [u8],
-) -> Sink {
-    let answer = calendars::date_to_day(calendar, date);
-    if all {
-        if let Day::Number(day) = answer {
-            return put_whole_day(rt, sink, day, out);
-        }
+) -> io::Result<()> {
+    match calendars::date_to_day(calendar, date) {
+        Ok(day) if all => write_whole_day(out, day),
+        answer => write_day(out, answer),
     }
-    put_day(rt, sink, answer, out)
-}
-
-fn put_position(
-    rt: &impl Print,
-    sink: Sink,
-    position: u64,
-    answer: Position,
-    out: &mut [u8],
-) -> Sink {
-    let mut line = [0u8; LINE];
-    let n = answer_lines::position_row(position, answer, &mut line);
-    put_line(rt, sink, &line[..n], out)
-}
-
-// A row for each position up to the first that is refused, and the days of all. Twenty lengths are far from wrapping.
-fn put_positions(rt: &impl Print, start: Sink, calendar: u64, year: i64, out: &mut [u8]) -> Sink {
-    let mut sink = start;
-    let mut sum = 0;
-    for position in 1..=MOST_POSITIONS {
-        let answer = calendars::position_of(calendar, year, position);
-        if calendars::is_refused(answer) {
-            break;
-        }
-        sink = put_position(rt, sink, position, answer, out);
-        sum = std::num::wrapping_add_u64(sum, calendars::days_of(answer));
-    }
-    put(
-        rt,
-        put_number(
-            rt,
-            put_all(
-                rt,
-                put_first_day(rt, sink, calendar, year, out),
-                b"days ",
-                out,
-            ),
-            sum,
-            out,
-        ),
-        b'\n',
-        out,
-    )
 }
 
 fn first_of(year: i64) -> Date {
@@ -123,155 +66,95 @@ fn first_of(year: i64) -> Date {
     }
 }
 
-fn put_first_day(rt: &impl Print, sink: Sink, calendar: u64, year: i64, out: &mut [u8]) -> Sink {
-    let mut line = [0u8; LINE];
-    let n = answer_lines::first_day_line(
-        calendars::date_to_day(calendar, first_of(year)),
-        &mut line,
-    );
-    put_line(rt, sink, &line[..n], out)
+// A row for each position up to the first that is refused, the first day and the days of all: in other words than the program `dates` has for it. Twenty
+// lengths are far from wrapping.
+fn write_positions(out: &mut impl Write, calendar: u64, year: i64) -> io::Result<()> {
+    let mut days: u64 = 0;
+    for position in 1..=MOST_POSITIONS {
+        let answer = calendars::position_of(calendar, year, position);
+        let Ok(found) = answer else {
+            break;
+        };
+        write_line(
+            out,
+            |line| answer_lines::position_row(position, answer, line),
+        )?;
+        days = days.wrapping_add(found.days());
+    }
+    let first = calendars::date_to_day(calendar, first_of(year));
+    write_line(out, |line| answer_lines::first_day_line(first, line))?;
+    writeln!(out, "days {days}")
 }
 
 // Where the calendar or the year is refused, so is its first position.
-pub(crate) fn answer_months(
-    rt: &impl Print,
-    sink: Sink,
-    calendar: u64,
-    year: i64,
-    out: &mut [u8],
-) -> Sink {
+pub(crate) fn answer_months(out: &mut impl Write, calendar: u64, year: i64) -> io::Result<()> {
     match calendars::position_of(calendar, year, 1) {
-        Position::Refused(why) => put_refusal(rt, sink, why, out),
-        _ => put_positions(rt, sink, calendar, year, out),
+        Ok(_) => write_positions(out, calendar, year),
+        Err(why) => write_refusal(out, why),
     }
 }
 
-fn number_of(answer: Day) -> u64 {
-    match answer {
-        Day::Number(n) => n,
-        Day::Refused(_) => 0,
-    }
+// The day of Easter; 0 where the year has none, since `easter_row` takes a number, which it then doesn't write.
+fn easter_day(calendar: u64, year: i64, answer: Result<MonthDay, Refusal>) -> u64 {
+    let Ok(MonthDay { month, day }) = answer else {
+        return 0;
+    };
+    let date = Date {
+        year,
+        month,
+        day,
+        weekday: 0,
+    };
+    calendars::date_to_day(calendar, date).unwrap_or(0)
 }
 
-// The day of Easter; 0 where the year has none.
-fn easter_day(calendar: u64, year: i64, answer: EasterDate) -> u64 {
-    match answer {
-        EasterDate::On(date) => number_of(calendars::date_to_day(
-            calendar,
-            Date {
-                year,
-                month: date.month,
-                day: date.day,
-                weekday: 0,
-            },
-        )),
-        EasterDate::Refused(_) => 0,
-    }
-}
-
-fn put_easter(rt: &impl Print, sink: Sink, calendar: u64, year: i64, out: &mut [u8]) -> Sink {
-    let mut line = [0u8; LINE];
+fn write_easter(out: &mut impl Write, calendar: u64, year: i64) -> io::Result<()> {
     let answer = easter::easter(calendar, year);
     let day = easter_day(calendar, year, answer);
-    let n = answer_lines::easter_row(calendar, year, answer, day, &mut line);
-    put_line(rt, sink, &line[..n], out)
-}
-
-pub(crate) fn answer_easter(rt: &impl Print, sink: Sink, year: i64, out: &mut [u8]) -> Sink {
-    put_easter(
-        rt,
-        put_easter(rt, sink, JULIAN, year, out),
-        GREGORIAN,
-        year,
+    write_line(
         out,
+        |line| answer_lines::easter_row(calendar, year, answer, day, line),
     )
 }
 
-pub(crate) fn answer_frame(
-    rt: &impl Print,
-    sink: Sink,
-    calendar: u64,
-    date: Date,
-    out: &mut [u8],
-) -> Sink {
+pub(crate) fn answer_easter(out: &mut impl Write, year: i64) -> io::Result<()> {
+    write_easter(out, JULIAN, year)?;
+    write_easter(out, GREGORIAN, year)
+}
+
+pub(crate) fn answer_frame(out: &mut impl Write, calendar: u64, date: Date) -> io::Result<()> {
     match calendars::date_to_day(calendar, date) {
-        Day::Number(number) => {
+        Ok(number) => {
             let frame = frames::write(Frame {
                 calendar,
-                year: listing::since(date.year) as u64,
+                year: u64::from(listing::since(date.year)),
                 month: date.month,
                 day: date.day,
                 number,
             });
-            put_line(rt, sink, &frame, out)
+            out.write_all(&frame)?;
+            writeln!(out)
         }
-        Day::Refused(why) => put_refusal(rt, sink, why, out),
+        Err(why) => write_refusal(out, why),
     }
 }
 
-fn put_first(rt: &impl Print, sink: Sink, calendar: u64, out: &mut [u8]) -> Sink {
-    let mut line = [0u8; LINE];
-    let year = listing::first_year(calendar);
-    let day = number_of(calendars::date_to_day(calendar, first_of(year)));
-    let n = answer_lines::first_row(calendar, day, year, &mut line);
-    put_line(rt, sink, &line[..n], out)
-}
-
-fn put_answer(rt: &impl Print, sink: Sink, number: u64, out: &mut [u8]) -> Sink {
-    let mut line = [0u8; LINE];
-    let n = answer_lines::answer_row(number, &mut line);
-    put_line(rt, sink, &line[..n], out)
-}
-
-// ---- tables with a row for a number
-
-#[derive(Clone, Copy)]
-enum Table {
-    // A day in each calendar.
-    Day(u64),
-    // The calendars with their first days and years.
-    Calendars,
-    // The answer numbers.
-    Answers,
-}
-
-// No calendar and no answer has a larger number.
-const LAST_NUMBER: u64 = 18;
-
-fn is_answer(number: u64) -> bool {
-    (number < 12) | (number == 13) | (number == 17)
-}
-
-fn has_row(table: Table, number: u64) -> bool {
-    match table {
-        Table::Answers => is_answer(number),
-        _ => listing::is_listed(number),
+// The calendars with their first days and years.
+pub(crate) fn answer_calendars(out: &mut impl Write) -> io::Result<()> {
+    for calendar in CALENDARS {
+        let number = calendar as u64;
+        let year = listing::first_year(number);
+        // Every calendar has its first day; `first_row` takes a number.
+        let day = calendars::date_to_day(number, first_of(year)).unwrap_or(0);
+        write_line(out, |line| answer_lines::first_row(number, day, year, line))?;
     }
+    Ok(())
 }
 
-fn put_row(rt: &impl Print, sink: Sink, table: Table, number: u64, out: &mut [u8]) -> Sink {
-    if !has_row(table, number) {
-        return sink;
+// The answer numbers in words.
+pub(crate) fn answer_answers(out: &mut impl Write) -> io::Result<()> {
+    for number in ANSWERS {
+        write_line(out, |line| answer_lines::answer_row(number, line))?;
     }
-    match table {
-        Table::Day(day) => put_calendar(rt, sink, number, day, out),
-        Table::Calendars => put_first(rt, sink, number, out),
-        Table::Answers => put_answer(rt, sink, number, out),
-    }
-}
-
-fn put_table(rt: &impl Print, start: Sink, table: Table, out: &mut [u8]) -> Sink {
-    let mut sink = start;
-    for number in 0..=LAST_NUMBER {
-        sink = put_row(rt, sink, table, number, out);
-    }
-    sink
-}
-
-pub(crate) fn answer_calendars(rt: &impl Print, sink: Sink, out: &mut [u8]) -> Sink {
-    put_table(rt, sink, Table::Calendars, out)
-}
-
-pub(crate) fn answer_answers(rt: &impl Print, sink: Sink, out: &mut [u8]) -> Sink {
-    put_table(rt, sink, Table::Answers, out)
+    Ok(())
 }

@@ -1,88 +1,56 @@
-// The forms of requests: what may stand in each place after the request's word, and how many places have to be filled.
+// The forms of requests: what may stand in each place after the request's word.
 use words::Request;
 
 // What may stand in a place.
-#[derive(Clone, Copy)]
+#[derive(Clone, Copy, Debug, PartialEq, Eq)]
 pub(crate) enum Argument {
     Natural,
     Year,
     Calendar,
     WeekdayOrAll,
     All,
-    Nothing,
 }
 
-fn day_argument(place: usize) -> Argument {
-    match place {
-        0 => Argument::Natural,
-        1 => Argument::Calendar,
-        _ => Argument::Nothing,
-    }
-}
+const DAY: [Argument; 2] = [Argument::Natural, Argument::Calendar];
 
-// Calendar, year, month and day, as `frame` has them; `date` has two places more.
-fn date_argument(place: usize) -> Argument {
-    match place {
-        0 => Argument::Calendar,
-        1 => Argument::Year,
-        2 => Argument::Natural,
-        3 => Argument::Natural,
-        _ => Argument::Nothing,
-    }
-}
+pub(crate) const DATE: [Argument; 6] = [
+    Argument::Calendar,
+    Argument::Year,
+    Argument::Natural,
+    Argument::Natural,
+    Argument::WeekdayOrAll,
+    Argument::All,
+];
 
-fn whole_date_argument(place: usize) -> Argument {
-    match place {
-        4 => Argument::WeekdayOrAll,
-        5 => Argument::All,
-        _ => date_argument(place),
-    }
-}
+const MONTHS: [Argument; 2] = [Argument::Calendar, Argument::Year];
 
-fn months_argument(place: usize) -> Argument {
-    match place {
-        0 => Argument::Calendar,
-        1 => Argument::Year,
-        _ => Argument::Nothing,
-    }
-}
+const EASTER: [Argument; 1] = [Argument::Year];
 
-fn easter_argument(place: usize) -> Argument {
-    match place {
-        0 => Argument::Year,
-        _ => Argument::Nothing,
-    }
-}
+const FRAME: [Argument; 4] = [
+    Argument::Calendar,
+    Argument::Year,
+    Argument::Natural,
+    Argument::Natural,
+];
 
-fn unfold_argument(place: usize) -> Argument {
-    if place < 5 {
-        return Argument::Natural;
-    }
-    Argument::Nothing
-}
+const UNFOLD: [Argument; 5] = [
+    Argument::Natural,
+    Argument::Natural,
+    Argument::Natural,
+    Argument::Natural,
+    Argument::Natural,
+];
 
-pub(crate) fn argument_at(request: Request, place: usize) -> Argument {
+// What may stand in a place, counted from 0. The lengths of `fit` have no end.
+pub(crate) fn argument_at(request: Request, place: usize) -> Option<Argument> {
     match request {
-        Request::Day => day_argument(place),
-        Request::Date => whole_date_argument(place),
-        Request::Months => months_argument(place),
-        Request::Easter => easter_argument(place),
-        Request::Frame => date_argument(place),
-        Request::Fit => Argument::Natural,
-        Request::Unfold => unfold_argument(place),
-        _ => Argument::Nothing,
-    }
-}
-
-// How many places have to be filled.
-pub(crate) fn least_arguments(request: Request) -> usize {
-    match request {
-        Request::Day => 1,
-        Request::Date => 4,
-        Request::Months => 2,
-        Request::Easter => 1,
-        Request::Frame => 4,
-        Request::Unfold => 4,
-        _ => 0,
+        Request::Day => DAY.get(place).copied(),
+        Request::Date => DATE.get(place).copied(),
+        Request::Months => MONTHS.get(place).copied(),
+        Request::Easter => EASTER.get(place).copied(),
+        Request::Frame => FRAME.get(place).copied(),
+        Request::Unfold => UNFOLD.get(place).copied(),
+        Request::Fit => Some(Argument::Natural),
+        Request::Calendars | Request::Answers | Request::Help => None,
     }
 }

@@ -1,281 +1,228 @@
-// A request line read byte by byte: its word, and the arguments after it.
-ghost use Rattle.std.specs.Prelude.{◌≤◌, min, length};
+// A request line: its word and its arguments, read byte by byte.
+ghost use Rattle.std.specs.Prelude.{◌≡◌, false};
 
-use crate::forms;
 use crate::forms::Argument;
+use crate::{answers, forms};
+use arrayvec::ArrayVec;
 use decimal::Number;
+use request_lines::RequestLine;
+use std::io::Write;
+use std::{fmt, io};
 use words::{Request, Word};
 
 // One more than the lengths that a code may have, so that a longer one shows.
-pub(crate) const MOST_NUMBERS: usize = 513;
+const MOST_NUMBERS: usize = 513;
 
 // How many bytes of a token are kept, to be shown where it is not understood.
-pub(crate) const MOST_SHOWN: usize = 64;
+const MOST_SHOWN: usize = 64;
 
-// A place after all that a form has.
-const LAST_PLACE: usize = 6;
-
-// The bytes since a blank: what they are as a number and as a word, and how many are kept; one more where some are not.
-#[derive(Clone, Copy)]
-pub(crate) struct Token {
+// What the bytes of a token are as a number and as a word.
+#[derive(Clone, Copy, Debug, PartialEq, Eq)]
+struct Meaning {
     number: Number,
     word: Word,
-    pub(crate) length: usize,
 }
 
-// A request whose tokens so far fit: how many places of its form are filled, and of those what does not go to the lent numbers.
-#[derive(Clone, Copy)]
-pub(crate) struct Asked {
-    pub(crate) request: Request,
-    pub(crate) count: usize,
-    pub(crate) year: i64,
+impl Meaning {
+    fn natural(self) -> Option<u64> {
+        match self.number {
+            Number::Natural(n) => Some(n),
+            _ => None,
+        }
+    }
+
+    fn year(self) -> Option<i64> {
+        match self.number {
+            Number::Natural(_) | Number::Negative(_) => Some(self.number.signed()),
+            _ => None,
+        }
+    }
+
+    fn calendar(self) -> Option<u64> {
+        words::calendar(self.word).or(self.natural())
+    }
+
+    fn weekday(self) -> Option<u64> {
+        words::weekday(self.word).or(self.natural())
+    }
+}
+
+// The bytes since a blank: what they are, and the first of them.
+#[derive(Drop)]
+pub(crate) struct Token {
+    meaning: Meaning,
+    shown: ArrayVec<u8, MOST_SHOWN>,
+    is_cut: bool,
+}
+
+impl Token {
+    fn new() -> Self {
+        Token {
+            meaning: Meaning {
+                number: Number::Empty,
+                word: Word::new(),
+            },
+            shown: ArrayVec::new(),
+            is_cut: false,
+        }
+    }
+
+    fn push(&mut self, byte: u8) {
+        self.meaning.number.push(byte);
+        self.meaning.word.push(byte);
+        if self.shown.try_push(byte).is_err() {
+            self.is_cut = true;
+        }
+    }
+}
+
+// What would move the cursor of a terminal, or is no text there, is shown as a question mark.
+fn printable(byte: u8) -> char {
+    match byte {
+        b' '..=b'~' => char::from(byte),
+        _ => '?',
+    }
+}
+
+impl fmt::Display for Token {
+    fn fmt<W: fmt::Write>(&self, f: &mut fmt::Formatter<W>) -> fmt::Result {
+        for &byte in self.shown.as_slice() {
+            f.write_char(printable(byte))?;
+        }
+        if self.is_cut {
+            f.write_str("..")?;
+        }
+        Ok(())
+    }
+}
+
+// How far a line is understood.
+#[derive(Clone, Copy, Debug, PartialEq, Eq)]
+pub(crate) enum Progress {
+    // No token is ended.
+    Empty,
+    // The tokens so far fit the request.
+    Fitting(Request),
+    // The last token does not fit the request, which is unknown where it is the first.
+    Wrong(Option<Request>),
+}
+
+// A line as far as it is read: the token that is not ended, or that does not fit, and the arguments before it.
+#[derive(Drop)]
+pub(crate) struct Line {
+    is_begun: bool,
+    pub(crate) progress: Progress,
+    pub(crate) token: Token,
+    // How many places of the request's form are filled.
+    place: usize,
+    // Those that are numbers or calendars. Where there is no room more are passed over.
+    pub(crate) numbers: ArrayVec<u64, MOST_NUMBERS>,
+    pub(crate) year: Option<i64>,
+    // 0 where none is given.
     pub(crate) weekday: u64,
     pub(crate) all: bool,
 }
 
-// How far a line is understood.
-#[derive(Clone, Copy)]
-pub(crate) enum Line {
-    // No token is ended, and no blank came.
-    Start,
-    // It has blanks alone.
-    Blank,
-    Fitting(Asked),
-    // The last token does not fit the request, which is unknown where it is the first.
-    Wrong(Request),
-}
-
-#[derive(Clone, Copy)]
-enum Value {
-    Is(u64),
-    Not,
-}
-
-pub(crate) fn no_token() -> Token {
-    Token {
-        number: Number::Empty,
-        word: Word::Letters(0),
-        length: 0,
-    }
-}
-
-fn keep(length: usize, byte: u8, shown: &mut [u8; MOST_SHOWN]) -> usize {
-    if length < MOST_SHOWN {
-        shown[length] = byte;
-        return length + 1;
-    }
-    MOST_SHOWN + 1
-}
-
-fn with_byte(token: Token, byte: u8, shown: &mut [u8; MOST_SHOWN]) -> Token {
-    let number_before = token.number;
-    let word_before = token.word;
-    let number = decimal::push(number_before, byte);
-    let word = words::push(word_before, byte);
-    let length = keep(token.length, byte, shown);
-    Token {
-        number,
-        word,
-        length,
-    }
-}
-
-// With more bytes, none of which ends it.
-pub(crate) fn longer(start: Token, bytes: &[u8], shown: &mut [u8; MOST_SHOWN]) -> Token {
-    let mut token = start;
-    let mut k: usize = 0;
-    while k < bytes.len() {
-        token = with_byte(token, bytes[k], shown);
-        k += 1;
-    }
-    token
-}
-
-// Blanks and newlines end a token.
-fn ends_token(byte: u8) -> bool {
-    (byte == b' ') | (byte == b'\n') | (byte == b'\t') | (byte == b'\r')
-}
-
-// Where the token at a place ends: at the next blank or newline, or with the bytes.
-pub(crate) fn token_end(bytes: &[u8], from: usize) -> usize
-    ensures { (min from (length bytes.now) ≤ result) × (result ≤ length bytes.now) }
-{
-    if bytes.len() < from {
-        return bytes.len();
-    }
-    let mut k = from;
-    while k < bytes.len() {
-        if ends_token(bytes[k]) {
-            break;
-        }
-        k += 1;
-    }
-    k
-}
-
-fn natural(number: Number) -> Value {
-    match number {
-        Number::Natural(n) => Value::Is(n),
-        _ => Value::Not,
-    }
-}
-
-// A number, or what a name stands for; `named` is 0 where it stands for none.
-fn numbered(number: Number, named: u64) -> Value {
-    if named > 0 {
-        return Value::Is(named);
-    }
-    natural(number)
-}
-
-fn is_whole(number: Number) -> bool {
-    match number {
-        Number::Natural(_) => true,
-        Number::Negative(_) => true,
-        _ => false,
-    }
-}
-
-fn wrong(asked: Asked) -> Line {
-    let request = asked.request;
-    Line::Wrong(request)
-}
-
-// A number goes to the place that it fills. Where there is no room more are passed over.
-fn with_number(asked: Asked, value: Value, numbers: &mut [u64; MOST_NUMBERS]) -> Line {
-    let Value::Is(n) = value else {
-        return wrong(asked);
-    };
-    let place = asked.count;
-    if place < MOST_NUMBERS {
-        numbers[place] = n;
-        let mut next = asked;
-        next.count = place + 1;
-        return Line::Fitting(next);
-    }
-    Line::Fitting(asked)
-}
-
-fn with_year(asked: Asked, number: Number) -> Line {
-    if !is_whole(number) {
-        return wrong(asked);
-    }
-    let mut next = asked;
-    next.count = next_place(asked.count);
-    next.year = decimal::signed(number);
-    Line::Fitting(next)
-}
-
-// No form has so many places but `fit`'s, which stay.
-fn next_place(place: usize) -> usize {
-    if place < MOST_NUMBERS {
-        return place + 1;
-    }
-    place
-}
-
-// `all` is the last place of its form.
-fn with_all(asked: Asked, word: Word) -> Line {
-    if !words::is_all(word) {
-        return wrong(asked);
-    }
-    let mut next = asked;
-    next.count = LAST_PLACE;
-    next.all = true;
-    Line::Fitting(next)
-}
-
-fn with_weekday(asked: Asked, number: Number, word: Word) -> Line {
-    let Value::Is(n) = numbered(number, words::weekday(word)) else {
-        return with_all(asked, word);
-    };
-    let mut next = asked;
-    next.count = next_place(asked.count);
-    next.weekday = n;
-    Line::Fitting(next)
-}
-
-// With one more token.
-fn with_argument(asked: Asked, token: Token, numbers: &mut [u64; MOST_NUMBERS]) -> Line {
-    let request = asked.request;
-    let number = token.number;
-    let word = token.word;
-    match forms::argument_at(request, asked.count) {
-        Argument::Natural => with_number(asked, natural(number), numbers),
-        Argument::Year => with_year(asked, number),
-        Argument::Calendar => with_number(asked, numbered(number, words::calendar(word)), numbers),
-        Argument::WeekdayOrAll => with_weekday(asked, number, word),
-        Argument::All => with_all(asked, word),
-        Argument::Nothing => wrong(asked),
-    }
-}
-
-fn with_request(word: Word) -> Line {
-    let request = words::request_of(word);
-    if is_unknown(request) {
-        return Line::Wrong(request);
-    }
-    Line::Fitting(Asked {
-        request,
-        count: 0,
-        year: 0,
-        weekday: 0,
-        all: false,
-    })
-}
-
-fn is_unknown(request: Request) -> bool {
-    match request {
-        Request::Unknown => true,
-        _ => false,
-    }
-}
-
-fn with_blank(line: Line) -> Line {
-    match line {
-        Line::Start => Line::Blank,
-        _ => line,
-    }
-}
-
-// With a token.
-fn with_bytes(line: Line, token: Token, numbers: &mut [u64; MOST_NUMBERS]) -> Line {
-    match line {
-        Line::Fitting(asked) => with_argument(asked, token, numbers),
-        Line::Wrong(_) => line,
-        _ => {
-            let word = token.word;
-            with_request(word)
+impl Line {
+    pub(crate) fn new() -> Self
+        ensures { result.is_begun ≡ false }
+    {
+        Line {
+            is_begun: false,
+            progress: Progress::Empty,
+            token: Token::new(),
+            place: 0,
+            numbers: ArrayVec::new(),
+            year: None,
+            weekday: 0,
+            all: false,
         }
     }
-}
 
-// After a blank, which ends the token if there is one.
-pub(crate) fn after_blank(line: Line, token: Token, numbers: &mut [u64; MOST_NUMBERS]) -> Line {
-    if token.length == 0 {
-        return with_blank(line);
+    // Blanks end a token; so does a newline, which an argument may have.
+    fn push(&mut self, byte: u8) {
+        match byte {
+            b' ' | b'\t' | b'\r' | b'\n' => self.end_token(),
+            _ => self.token.push(byte),
+        }
     }
-    with_bytes(line, token, numbers)
-}
 
-pub(crate) fn is_start(line: Line) -> bool {
-    match line {
-        Line::Start => true,
-        _ => false,
+    // After a blank or the last byte. A token that does not fit stays, to be shown, and the rest of the line is passed over.
+    pub(crate) fn end_token(&mut self) {
+        let token = self.token.meaning;
+        if self.is_wrong() || token.number == Number::Empty {
+            return;
+        }
+        self.progress = match self.progress {
+            Progress::Fitting(request) => match self.take_argument(request, token) {
+                Some(()) => Progress::Fitting(request),
+                None => Progress::Wrong(Some(request)),
+            },
+            _ => match words::request_of(token.word) {
+                Some(request) => Progress::Fitting(request),
+                None => Progress::Wrong(None),
+            },
+        };
+        if !self.is_wrong() {
+            self.token = Token::new();
+        }
+    }
+
+    fn is_wrong(&self) -> bool {
+        matches!(self.progress, Progress::Wrong(_))
+    }
+
+    // Takes a token as the next argument, if it fits.
+    fn take_argument(&mut self, request: Request, token: Meaning) -> Option<()> {
+        match forms::argument_at(request, self.place)? {
+            Argument::Natural => self.take_number(token.natural()?),
+            Argument::Calendar => self.take_number(token.calendar()?),
+            Argument::Year => self.year = Some(token.year()?),
+            Argument::WeekdayOrAll => match token.weekday() {
+                Some(weekday) => self.weekday = weekday,
+                None => self.take_all(token)?,
+            },
+            Argument::All => self.take_all(token)?,
+        }
+        self.place = self.place.saturating_add(1);
+        Some(())
+    }
+
+    fn take_number(&mut self, n: u64) {
+        let _ = self.numbers.try_push(n);
+    }
+
+    // `all` is the last of its form.
+    fn take_all(&mut self, token: Meaning) -> Option<()> {
+        if !token.word.is_all() {
+            return None;
+        }
+        self.all = true;
+        self.place = forms::DATE.len();
+        Some(())
     }
 }
 
-pub(crate) fn is_wrong(line: Line) -> bool {
-    match line {
-        Line::Wrong(_) => true,
-        _ => false,
-    }
-}
+impl RequestLine for Line {
+    ghost begun = { λ line. line.is_begun };
 
-// Whether the first token is no request's word.
-pub(crate) fn is_unknown_word(line: Line) -> bool {
-    match line {
-        Line::Wrong(request) => is_unknown(request),
-        _ => false,
+    fn is_begun(&self) -> bool {
+        self.is_begun
+    }
+
+    fn take(&mut self, bytes: &[u8]) {
+        for &byte in bytes {
+            self.is_begun = true;
+            if !self.is_wrong() {
+                self.push(byte);
+            }
+        }
+    }
+
+    fn answer(&mut self, out: &mut impl Write) -> io::Result<()> {
+        self.end_token();
+        answers::answer(out, self)?;
+        *self = Line::new();
+        Ok(())
     }
 }

@@ -18,7 +18,8 @@ use Rattle.words.proofs.Claims.{calendar_length, weekday_length}
 use Rattle.texts.specs.Columns.{blanks, left_in, right_in}
 use Rattle.phrases.specs.Phrases.{refusal_text}
 use Rattle.phrases.proofs.Claims.{answer_length, refusal_length}
-use Rattle.answer_lines.specs.Lines.{or_refusal, day_text, day_line, date_text, date_line, first_day_line, heading, date_columns, calendar_row, easter_row, first_row, kind_name, position_row, answer_row}
+use Rattle.answer_lines.specs.Lines.{or_refusal, day_text, day_line, date_text, date_line, first_day_line, heading, date_columns, calendar_row}
+use Rattle.answer_lines.specs.Lines.{easter_row, first_row, kind_name, position_row, answer_row}
 
 -- ---- parts
 

@@ -6,187 +6,230 @@ ghost use Rattle.refusals.specs.Number.{number_of};
 ghost use Rattle.phrases.specs.Phrases.{refusal_text};
 ghost use Rattle.calendars.specs.Paper.{day_paper, date_paper, position_paper};
 ghost use Rattle.easter.specs.Paper.{easter_paper};
-ghost use Rattle.std.specs.Prelude.{◌++◌};
-ghost use Rattle.decimal.specs.Decimal.{text};
-ghost use Rattle.decimal.specs.Inner.{Counts};
-ghost use Rattle.words.specs.Text.{bytes};
-ghost use Rattle.texts.specs.Writing.{Writes};
-ghost use Rattle.texts.specs.Columns.{left_in};
-ghost use Rattle.answer_lines.specs.Lines.{day_text, day_line, date_text, date_line, first_day_line, heading, date_columns, calendar_row, easter_row, first_row, kind_name, position_row, answer_row};
+ghost use Rattle.std.specs.Prelude.{◌≡◌};
+ghost use Rattle.texts.specs.Writing.{Writes, Counts};
+ghost use Rattle.texts.specs.Lines.{Adds};
+ghost use Rattle.answer_lines.specs.Lines.{day_line, date_line, first_day_line, heading, date_columns, calendar_row};
+ghost use Rattle.answer_lines.specs.Lines.{easter_row, first_row, kind_name, position_row, answer_row};
 
-use calendars::{Date, Dated, Day, Position};
-use easter::EasterDate;
-use phrases::{
-    append_answer, append_calendar, append_number, append_number_in, append_refusal, append_signed,
-    append_signed_in, append_weekday,
-};
+use calendars::{Date, Position};
+use decimal::Digits;
+use easter::MonthDay;
+use phrases::{push_answer, push_calendar, push_refusal, push_weekday};
 use refusals::Refusal;
-use texts::{append, append_byte, append_left};
+use texts::Line;
 
-// ---- lines
+// The column of years: the least that has days, -4712, takes 5 bytes.
+const YEAR_WIDTH: usize = 5;
 
-fn append_day(day: u64, line: &mut [u8]) -> usize
-    ensures { Writes 0 (day_text day) line.old line.new result }
-{
-    let a = append_number(0, day, line);
-    let b = append_byte(a, b' ', line);
-    append_weekday(b, weekdays::weekday_of(day), line)
-}
+// ---- lines. Each says by itself what stands in place of an answer that is refused: one function for all would take a closure, whose clause would have to say what
+// it pushes, which is no shorter than the match.
 
-// The answer to a date.
-pub fn day_line(answer: Day, line: &mut [u8]) -> usize
-    ensures text { Writes 0 (day_line (day_paper answer)) line.old line.new result }
-    ensures within { Counts result line.new }
+fn push_day(line: &mut Line, answer: Result<u64, Refusal>)
+    ensures { Adds (day_line (day_paper answer)) line.old line.new }
 {
     match answer {
-        Day::Number(n) => append_day(n, line),
-        Day::Refused(why) => append_refusal(0, why, line),
+        Ok(day) => {
+            line.push_text(Digits::from(day).as_bytes());
+            line.push(b' ');
+            push_weekday(line, weekdays::weekday_of(day));
+        }
+        Err(why) => push_refusal(line, why),
     }
 }
 
-// A refusal alone.
-pub fn refusal_line(why: Refusal, line: &mut [u8]) -> usize
-    ensures text { Writes 0 (refusal_text (number_of why)) line.old line.new result }
-    ensures within { Counts result line.new }
+// The answer to a date.
+pub fn day_line(answer: Result<u64, Refusal>, buffer: &mut [u8]) -> usize
+    ensures text { Writes 0 (day_line (day_paper answer)) buffer.old buffer.new result }
+    ensures within { Counts result buffer.new }
 {
-    append_refusal(0, why, line)
+    let mut line = Line::new(buffer);
+    push_day(&mut line, answer);
+    line.end
 }
 
-fn append_date(date: Date, line: &mut [u8]) -> usize
-    ensures { Writes 0 (date_text date.year date.month date.day date.weekday) line.old line.new result }
+// A refusal alone.
+pub fn refusal_line(why: Refusal, buffer: &mut [u8]) -> usize
+    ensures text { Writes 0 (refusal_text (number_of why)) buffer.old buffer.new result }
+    ensures within { Counts result buffer.new }
 {
-    let a = append_signed(0, date.year, line);
-    let b = append_byte(a, b' ', line);
-    let c = append_number(b, date.month, line);
-    let d = append_byte(c, b' ', line);
-    let e = append_number(d, date.day, line);
-    let f = append_byte(e, b' ', line);
-    append_weekday(f, date.weekday, line)
+    let mut line = Line::new(buffer);
+    push_refusal(&mut line, why);
+    line.end
+}
+
+fn push_date(line: &mut Line, answer: Result<Date, Refusal>)
+    ensures { Adds (date_line (date_paper answer)) line.old line.new }
+{
+    match answer {
+        Ok(date) => {
+            line.push_text(Digits::from(date.year).as_bytes());
+            line.push(b' ');
+            line.push_text(Digits::from(date.month).as_bytes());
+            line.push(b' ');
+            line.push_text(Digits::from(date.day).as_bytes());
+            line.push(b' ');
+            push_weekday(line, date.weekday);
+        }
+        Err(why) => push_refusal(line, why),
+    }
 }
 
 // The answer to a day in one calendar.
-pub fn date_line(answer: Dated, line: &mut [u8]) -> usize
-    ensures text { Writes 0 (date_line (date_paper answer)) line.old line.new result }
-    ensures within { Counts result line.new }
+pub fn date_line(answer: Result<Date, Refusal>, buffer: &mut [u8]) -> usize
+    ensures text { Writes 0 (date_line (date_paper answer)) buffer.old buffer.new result }
+    ensures within { Counts result buffer.new }
 {
+    let mut line = Line::new(buffer);
+    push_date(&mut line, answer);
+    line.end
+}
+
+fn push_first_day(line: &mut Line, answer: Result<u64, Refusal>)
+    ensures { Adds (first_day_line (day_paper answer)) line.old line.new }
+{
+    line.push_text(b"first day ");
     match answer {
-        Dated::On(date) => append_date(date, line),
-        Dated::Refused(why) => append_refusal(0, why, line),
+        Ok(day) => line.push_text(Digits::from(day).as_bytes()),
+        Err(why) => push_refusal(line, why),
     }
 }
 
 // The first day of a year.
-pub fn first_day_line(answer: Day, line: &mut [u8]) -> usize
-    ensures text { Writes 0 (first_day_line (day_paper answer)) line.old line.new result }
-    ensures within { Counts result line.new }
+pub fn first_day_line(answer: Result<u64, Refusal>, buffer: &mut [u8]) -> usize
+    ensures text { Writes 0 (first_day_line (day_paper answer)) buffer.old buffer.new result }
+    ensures within { Counts result buffer.new }
 {
-    let a = append(0, b"first day ", line);
-    match answer {
-        Day::Number(n) => append_number(a, n, line),
-        Day::Refused(why) => append_refusal(a, why, line),
-    }
+    let mut line = Line::new(buffer);
+    push_first_day(&mut line, answer);
+    line.end
 }
 
 // ---- rows of tables
 
-fn append_heading(calendar: u64, line: &mut [u8]) -> usize
-    ensures { Writes 0 (heading calendar) line.old line.new result }
+fn push_heading(line: &mut Line, calendar: u64)
+    ensures { Adds (heading calendar) line.old line.new }
 {
-    let a = append_number_in(0, 2, calendar, line);
-    let b = append_byte(a, b' ', line);
-    let c = append_calendar(b, calendar, line);
-    append_byte(c, b' ', line)
+    line.push_right(2, Digits::from(calendar).as_bytes());
+    line.push(b' ');
+    push_calendar(line, calendar);
+    line.push(b' ');
 }
 
-fn append_columns(at: usize, year: i64, month: u64, day: u64, line: &mut [u8]) -> usize
-    ensures { Writes at (date_columns year month day) line.old line.new result }
+fn push_columns(line: &mut Line, year: i64, month: u64, day: u64)
+    ensures { Adds (date_columns year month day) line.old line.new }
 {
-    let a = append_signed_in(at, 5, year, line);
-    let b = append_byte(a, b' ', line);
-    let c = append_number_in(b, 2, month, line);
-    let d = append_byte(c, b' ', line);
-    append_number_in(d, 2, day, line)
+    line.push_right(YEAR_WIDTH, Digits::from(year).as_bytes());
+    line.push(b' ');
+    line.push_right(2, Digits::from(month).as_bytes());
+    line.push(b' ');
+    line.push_right(2, Digits::from(day).as_bytes());
 }
 
-// A day in a calendar.
-pub fn calendar_row(calendar: u64, answer: Dated, line: &mut [u8]) -> usize
-    ensures text { Writes 0 (calendar_row calendar (date_paper answer)) line.old line.new result }
-    ensures within { Counts result line.new }
+fn push_calendar_row(line: &mut Line, calendar: u64, answer: Result<Date, Refusal>)
+    ensures { Adds (calendar_row calendar (date_paper answer)) line.old line.new }
 {
-    let a = append_heading(calendar, line);
+    push_heading(line, calendar);
     match answer {
-        Dated::On(date) => append_columns(a, date.year, date.month, date.day, line),
-        Dated::Refused(why) => append_refusal(a, why, line),
+        Ok(date) => push_columns(line, date.year, date.month, date.day),
+        Err(why) => push_refusal(line, why),
     }
 }
 
-fn append_easter(at: usize, year: i64, month: u64, day: u64, number: u64, line: &mut [u8]) -> usize
-    ensures { Writes at (date_columns year month day ++ bytes " " ++ text number) line.old line.new result }
+// A day in a calendar.
+pub fn calendar_row(calendar: u64, answer: Result<Date, Refusal>, buffer: &mut [u8]) -> usize
+    ensures text { Writes 0 (calendar_row calendar (date_paper answer)) buffer.old buffer.new result }
+    ensures within { Counts result buffer.new }
 {
-    let a = append_columns(at, year, month, day, line);
-    let b = append_byte(a, b' ', line);
-    append_number(b, number, line)
+    let mut line = Line::new(buffer);
+    push_calendar_row(&mut line, calendar, answer);
+    line.end
+}
+
+fn push_easter_row(
+    line: &mut Line,
+    calendar: u64,
+    year: i64,
+    answer: Result<MonthDay, Refusal>,
+    number: u64,
+)
+    ensures { Adds (easter_row calendar year (easter_paper answer) number) line.old line.new }
+{
+    push_heading(line, calendar);
+    match answer {
+        Ok(date) => {
+            push_columns(line, year, date.month, date.day);
+            line.push(b' ');
+            line.push_text(Digits::from(number).as_bytes());
+        }
+        Err(why) => push_refusal(line, why),
+    }
 }
 
 // Easter of a year in a calendar, and the number of its day.
 pub fn easter_row(
     calendar: u64,
     year: i64,
-    answer: EasterDate,
+    answer: Result<MonthDay, Refusal>,
     number: u64,
-    line: &mut [u8],
+    buffer: &mut [u8],
 ) -> usize
-    ensures text { Writes 0 (easter_row calendar year (easter_paper answer) number) line.old line.new result }
-    ensures within { Counts result line.new }
+    ensures text { Writes 0 (easter_row calendar year (easter_paper answer) number) buffer.old buffer.new result }
+    ensures within { Counts result buffer.new }
 {
-    let a = append_heading(calendar, line);
-    match answer {
-        EasterDate::On(date) => append_easter(a, year, date.month, date.day, number, line),
-        EasterDate::Refused(why) => append_refusal(a, why, line),
-    }
+    let mut line = Line::new(buffer);
+    push_easter_row(&mut line, calendar, year, answer, number);
+    line.end
 }
 
 // A calendar's first day and first year.
-pub fn first_row(calendar: u64, day: u64, year: i64, line: &mut [u8]) -> usize
-    ensures text { Writes 0 (first_row calendar day year) line.old line.new result }
-    ensures within { Counts result line.new }
+pub fn first_row(calendar: u64, day: u64, year: i64, buffer: &mut [u8]) -> usize
+    ensures text { Writes 0 (first_row calendar day year) buffer.old buffer.new result }
+    ensures within { Counts result buffer.new }
 {
-    let a = append_heading(calendar, line);
-    let b = append_number_in(a, 7, day, line);
-    let c = append_byte(b, b' ', line);
-    append_signed_in(c, 5, year, line)
+    let mut line = Line::new(buffer);
+    push_heading(&mut line, calendar);
+    line.push_right(7, Digits::from(day).as_bytes());
+    line.push(b' ');
+    line.push_right(YEAR_WIDTH, Digits::from(year).as_bytes());
+    line.end
 }
 
+// What a position is in one word; a refused one is none.
 #[tactic(auto, unfolding(words::specs::Text::bytes))]
-fn append_kind(at: usize, answer: Position, line: &mut [u8]) -> usize
-    ensures { Writes at (left_in 5 (kind_name (position_paper answer).kind)) line.old line.new result }
+fn kind(answer: Result<Position, Refusal>) -> &'static [u8]
+    ensures { result.now ≡ kind_name (position_paper answer).kind }
 {
     match answer {
-        Position::Month(_) => append_left(at, 5, b"month", line),
-        Position::Strip(_) => append_left(at, 5, b"strip", line),
-        Position::None => append_left(at, 5, b"none", line),
-        Position::Refused(_) => append_left(at, 5, b"none", line),
+        Ok(Position::Month(_)) => b"month",
+        Ok(Position::Strip(_)) => b"strip",
+        Ok(Position::None) | Err(_) => b"none",
     }
 }
 
 // A position of a year.
-pub fn position_row(position: u64, answer: Position, line: &mut [u8]) -> usize
-    ensures text { Writes 0 (position_row position (position_paper answer)) line.old line.new result }
-    ensures within { Counts result line.new }
+pub fn position_row(position: u64, answer: Result<Position, Refusal>, buffer: &mut [u8]) -> usize
+    ensures text { Writes 0 (position_row position (position_paper answer)) buffer.old buffer.new result }
+    ensures within { Counts result buffer.new }
 {
-    let a = append_number_in(0, 2, position, line);
-    let b = append_byte(a, b' ', line);
-    let c = append_kind(b, answer, line);
-    let d = append_byte(c, b' ', line);
-    append_number_in(d, 2, calendars::days_of(answer), line)
+    let days = answer.map_or(0, Position::days);
+    let mut line = Line::new(buffer);
+    line.push_right(2, Digits::from(position).as_bytes());
+    line.push(b' ');
+    line.push_left(5, kind(answer));
+    line.push(b' ');
+    line.push_right(2, Digits::from(days).as_bytes());
+    line.end
 }
 
 // An answer number and its words.
-pub fn answer_row(number: u64, line: &mut [u8]) -> usize
-    ensures text { Writes 0 (answer_row number) line.old line.new result }
-    ensures within { Counts result line.new }
+pub fn answer_row(number: u64, buffer: &mut [u8]) -> usize
+    ensures text { Writes 0 (answer_row number) buffer.old buffer.new result }
+    ensures within { Counts result buffer.new }
 {
-    let a = append_number_in(0, 2, number, line);
-    let b = append_byte(a, b' ', line);
-    append_answer(b, number, line)
+    let mut line = Line::new(buffer);
+    line.push_right(2, Digits::from(number).as_bytes());
+    line.push(b' ');
+    push_answer(&mut line, number);
+    line.end
 }

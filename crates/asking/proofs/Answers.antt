@@ -1,6 +1,8 @@
 -- The answers in steps are the answers: a year that is refused; a position that the year does not have; and one that it has, with the days in it.
 use mathlib.Core.List.{List}
 use mathlib.Core.Option.{Option}
+use Rattle.std.specs.Prelude.{Some, None, is_some}
+use Rattle.std.specs.Prelude as S
 use mathlib.Core.Path.{◌≡◌, refl, sym, ap, subst, ◌∙◌}
 use mathlib.Core.Bool.{Bool, true, false, cond, ◌&&◌, ◌||◌, true≢false}
 use mathlib.Core.Logic.{◌⊎◌, inl, inr}
@@ -15,13 +17,13 @@ use borrow.Author.Tests.{le-ltb, lt-ltb, ltb-true, ltb-false, eqb-true, eqb-fals
 use Rattle.counting.specs.Calendar.{total, start, len, day_of}
 use Rattle.counting.specs.Years.{years_from}
 use Rattle.counting.specs.Answers.{Calendar, years, DayAnswer, DateAnswer, last_day, last_year, year_out, no_month, no_day, day_out, day_number}
-use Rattle.counting.specs.Answers.{length_in, month_zero, above_positions, no_days_that_year, no_day_answer, no_date_answer, day_for, date_for, dated, date_on, after, ended, last_of}
+use Rattle.counting.specs.Answers.{length_in, no_days_that_year, no_day_answer, no_date_answer, day_for, date_for, dated, date_on, after, ended, last_of}
 use Rattle.counting.specs.Answers.{weekday_of, FitsDay, wrong_weekday, weekday_tried}
 use Rattle.counting.specs.Positions.{Kind, PositionAnswer, no_position, is_strip, kind_in, no_position_answer, position_for}
 use Rattle.basics.proofs.Cases.{neither, cond_elim}
 use Rattle.counting.proofs.Counting.{counted}
 use Rattle.counting.proofs.Positions.{days_in}
-use Rattle.counting.proofs.Rounds.{lengths_at, no_month_lem, last_in, last_small, past_end, answered}
+use Rattle.counting.proofs.Rounds.{lengths_at, no_month_lem, last_small, past_end, answered}
 use Rattle.counting.proofs.Signs.{years_small}
 use Rattle.counting.proofs.Totals.{get_d_le_total}
 use Rattle.counting.proofs.Weekdays.{tried, refused}
@@ -32,8 +34,12 @@ use Rattle.calendar_rules.proofs.Positions.{absent}
 use Rattle.calendar_rules.proofs.Bounds.{start_within, position_within, year_days_lem, has_days}
 use Rattle.calendar_rules.proofs.Weekdays.{with_weekday}
 use Rattle.calendar_rules.proofs.Claims.{day_asked, date_asked, position_asked}
-use Rattle.months.specs.Parts.{length_at, MonthOf, PlaceOf, PlaceTo, packed_in, PackedAt}
-use Rattle.asking.specs.Steps.{OfListed, packed_day, packed_tried, none_number, packed_none, none_there, kind_at, strip_or0, Answered, Sought, on_day, in_range, try_end, end_tried, day_in, why_not, Found}
+use Rattle.months.specs.Parts.{length_at, IsLength, LengthAt, MonthOf, packed_in, PackedAt}
+use Rattle.parts.specs.declared.Month.{Month}
+use Rattle.parts.specs.declared.Place.{Place}
+use Rattle.parts.specs.Found.{MonthAt, PlaceAt, PlaceTo}
+use Rattle.asking.specs.Steps.{OfListed, packed_day, packed_tried, none_number, packed_none, none_there, given, Answered, Sought}
+use Rattle.asking.specs.Steps.{on_day, in_range, try_end, end_tried, day_in, why_not, IsDate}
 use Rattle.asking.proofs.Arms.{before_first, never}
 
 -- ---- in a calendar, a year that is not refused
@@ -76,19 +82,6 @@ packed_in_lem K f b l d = rw f (go (eqb d 0 || ltb l d) (ltb last_day (b + (d - 
     go false false = omega arith
 
 -- ---- a position that there is not
-
--- the number of the refusal
-pub none_within : (c : ℕ) (y : ℤ) → (1 ≤ none_number c y) × (none_number c y ≤ 3)
-unfolding none_number
-none_within c y = go (calendar c)
-  where
-    in_year : (t : Bool) → (1 ≤ cond {A = ℕ} t 2 3) × (cond {A = ℕ} t 2 3 ≤ 3)
-    in_year true = omega arith
-    in_year false = omega arith
-
-    go : (o : Option Calendar) → (1 ≤ of_listed o 1 (λ K. cond (year_out K y) 2 3)) × (of_listed o 1 (λ K. cond (year_out K y) 2 3) ≤ 3)
-    go Option.none = omega arith
-    go (Option.some K) = in_year (year_out K y)
 
 module _ (c : ℕ) (y : ℤ) (m : ℕ) where
   -- no calendar that is listed for the number has it
@@ -143,9 +136,12 @@ pub record YearIn (c : ℕ) (y : ℤ) : Type 0 where
 abbrev pub years_of : {c : ℕ} {y : ℤ} → YearIn c y → ℕ
 years_of {y = y} x = years_from x.calendar.first_year y
 
-pub year_found : {c : ℕ} {y : ℤ} {P : Calendar → ℕ → Type 0} {days : ℕ} → Sought c y P days → (days ≡ 0 → ⊥) → (x : YearIn c y) × P x.calendar (years_of x)
-year_found {c} {y} {P} {days} s n = go (calendar c) refl
+pub year_found : {A : Type 0} {c : ℕ} {y : ℤ} {P : Calendar → ℕ → Type 0} {a : A} → Sought c y P (Some a) → (x : YearIn c y) × P x.calendar (years_of x)
+year_found {c = c} {y = y} {P = P} {a = a} s = go (calendar c) refl
   where
+    n : Some a ≡ None → ⊥
+    n e = true≢false (ap is_some e)
+
     in_year : (K : Calendar) → Listed c K → (t : Bool) → year_out K y ≡ t → (x : YearIn c y) × P x.calendar (years_of x)
     in_year K l true e = absurd (n (s.out K l e))
     in_year K l false e = (record { calendar = K; listed = l; inside = e }, s.there K l e)
@@ -177,15 +173,15 @@ module _ {c : ℕ} {y : ℤ} (x : YearIn c y) (m : ℕ) where
       )
 
   -- as code has them, from the position that was found
-  module _ {start days : ℕ} (f : MonthOf x.calendar (years_of x) (m - 1) start days) (n : m ≡ 0 → ⊥) (z : days ≡ 0 → ⊥) where
+  module _ {start days : ℕ} (f : MonthOf x.calendar (years_of x) (m - 1) start days) (n : m ≡ 0 → ⊥) (k : 1 ≤ days) where
     begins_there : start ≡ begin_of
-    begins_there = f.begins (omega arith)
+    begins_there = f.begins k
 
     pub found_small : (start ≤ 20000000) × (days ≤ 385)
     found_small = let s = there_small in (omega (arith, s.0, begins_there), omega (arith, s.1, f.length_is))
 
     pub found_day : (d : ℕ) → packed_day (day_in x.calendar start days d) ≡ packed_day (day_answer c y m d)
-    found_day d = ap packed_day ((λ i. day_in x.calendar (begins_there i) (f.length_is i) d) ∙ day_there n (λ e. z (f.length_is ∙ e)) d)
+    found_day d = ap packed_day ((λ i. day_in x.calendar (begins_there i) (f.length_is i) d) ∙ day_there n (λ e. omega (arith, k, f.length_is, e)) d)
 
   -- and of a position that the year may have or not, where the calendar did not end
   pub packed_there : x.calendar.end ≡ Option.none → (d r : ℕ) → (m ≡ 0 → ⊥) → PackedAt x.calendar (years_of x) (m - 1) d r
@@ -237,36 +233,40 @@ end_of_other {c} r n = go (calendar c) refl
 
 -- ---- as code has them, from what was sought
 
-module _ {c : ℕ} {y : ℤ} (m : ℕ) {start days : ℕ} (s : Sought c y (λ K i. MonthOf K i (m - 1) start days) days) (h : m ≡ 0 → ⊥) (d : ℕ) where
-  there : (days ≡ 0 → ⊥) → (x : YearIn c y) × (start ≤ 20000000) × (days ≤ 385) × (packed_day (day_in x.calendar start days d) ≡ packed_day (day_answer c y m d))
-  there z =
-      let x = year_found s z in
-      let b = found_small x.0 m x.1 h z in
-      (x.0, b.0, b.1, found_day x.0 m x.1 h z d)
+module _ {c : ℕ} {y : ℤ} (m : ℕ) (h : m ≡ 0 → ⊥) (d : ℕ) where
+  -- the position is not there
+  pub not_there : Sought {A = Month} c y (λ K i. MonthAt K i (m - 1) None) None → packed_none c y ≡ packed_day (day_answer c y m d)
+  not_there s = day_none c y m (nowhere_zero c y m s.there) d
 
-  -- the position is not there, or has no such day
-  pub not_found : (eqb d 0 || ltb days d) ≡ true → cond (eqb days 0) (packed_none c y) (4 * 2 ^ 32) ≡ packed_day (day_answer c y m d)
-  not_found t =
-      cond_elim (λ (n : ℕ). n ≡ packed_day (day_answer c y m d)) (eqb days 0) (packed_none c y) (4 * 2 ^ 32)
-      (λ e. day_none c y m (nowhere_zero c y m (λ K l f. sym (s.there K l f).length_is ∙ eqb-true days 0 e)) d)
-      (λ e. let x = there (eqb-false days 0 e) in refused x.0.calendar t ∙ x.3)
-    where
-      refused : (K : Calendar) → (eqb d 0 || ltb days d) ≡ true → 4 * 2 ^ 32 ≡ packed_day (day_in K start days d)
-      refused K t = rw t refl
+  module _ {month : Month} (s : Sought c y (λ K i. MonthAt K i (m - 1) (Some month)) (Some month)) where
+    there : (x : YearIn c y) × (month.start ≤ 20000000) × (month.days ≤ 385)
+        × (packed_day (day_in x.calendar month.start month.days d) ≡ packed_day (day_answer c y m d))
+    there =
+        let x = year_found s in
+        let b = found_small x.0 m x.1.1 h x.1.0 in
+        (x.0, b.0, b.1, found_day x.0 m x.1.1 h x.1.0 d)
 
-  -- or has it
-  pub found : (eqb d 0 || ltb days d) ≡ false
-      → (1 ≤ d) × (d ≤ 385) × (start ≤ 20000000) × (end_tried c (in_range (start + (d - 1))) ≡ packed_day (day_answer c y m d))
-  found t =
-      let o = neither (eqb d 0) (ltb days d) t in
-      let l = ltb-false days d o.1 in
-      let k : 1 ≤ d = omega (arith, eqb-false d 0 o.0) in
-      let x = there (λ z. omega arith) in
-      let e : d ≤ 385 = omega (arith, l, x.2) in
-      (k, e, x.1, end_tried_lem x.0.listed (start + (d - 1)) (omega (arith, x.1)) ∙ given x.0.calendar t ∙ x.3)
-    where
-      given : (K : Calendar) → (eqb d 0 || ltb days d) ≡ false → packed_day (on_day K (start + (d - 1))) ≡ packed_day (day_in K start days d)
-      given K t = rw t refl
+    -- it has no such day
+    pub no_such_day : (eqb d 0 || ltb month.days d) ≡ true → 4 * 2 ^ 32 ≡ packed_day (day_answer c y m d)
+    no_such_day t = refused there.0.calendar t ∙ there.3
+      where
+        refused : (K : Calendar) → (eqb d 0 || ltb month.days d) ≡ true → 4 * 2 ^ 32 ≡ packed_day (day_in K month.start month.days d)
+        refused K t = rw t refl
+
+    -- or has it
+    pub found : (eqb d 0 || ltb month.days d) ≡ false
+        → (1 ≤ d) × (d ≤ 385) × (month.start ≤ 20000000) × (end_tried c (in_range (month.start + (d - 1))) ≡ packed_day (day_answer c y m d))
+    found t =
+        let o = neither (eqb d 0) (ltb month.days d) t in
+        let l = ltb-false month.days d o.1 in
+        let k : 1 ≤ d = omega (arith, eqb-false d 0 o.0) in
+        let x = there in
+        let e : d ≤ 385 = omega (arith, l, x.2) in
+        (k, e, x.1, end_tried_lem x.0.listed (month.start + (d - 1)) (omega (arith, x.1)) ∙ given x.0.calendar t ∙ x.3)
+      where
+        given : (K : Calendar) → (eqb d 0 || ltb month.days d) ≡ false
+            → packed_day (on_day K (month.start + (d - 1))) ≡ packed_day (day_in K month.start month.days d)
+        given K t = rw t refl
 
 -- ---- a position: its days first
 
@@ -278,11 +278,6 @@ without_days K y m o z = go (no_position K y m) (rw o at z)
     go : (t : Bool) → (cond t (no_position_answer 3) (record { number = 0; kind = kind_in K y m; days = length_in K y m })).days ≡ 0 → (t || no_days_that_year K y m) ≡ true
     go true z = refl
     go false z = eq-eqb (length_in K y m) 0 z
-
--- whether a position from 1 on is the strip
-is_strip_lem : (o : Option ℕ) (m : ℕ) → ¬ (m ≡ 0) → eqb m (strip_or0 o) ≡ is_strip o m
-is_strip_lem Option.none m z = ne_eqb m 0 z
-is_strip_lem (Option.some p) m z = refl
 
 module _ (c : ℕ) (y : ℤ) (m : ℕ) where
   -- where no calendar that is listed has it there are none
@@ -300,18 +295,17 @@ module _ (c : ℕ) (y : ℤ) (m : ℕ) where
       go Option.none e = refl
       go (Option.some K) e = in_calendar K (year_out K y) (h K (record { row = e })) (no_position K y m) refl
 
-  pub days_found : {n : ℕ} → (m ≡ 0 → ⊥) → Sought c y (λ K i. n ≡ length_at K i (m - 1)) n → n ≡ (position_answer c y m).days
-  days_found {n} h s = go (dec_lt 0 n)
-    where
-      go : Dec (0 < n) → n ≡ (position_answer c y m).days
-      go (yes l) =
-          let x = year_found s (λ e. omega arith) in
-          let K = x.0.calendar in
-          x.1
-          ∙ ap (λ (ls : List ℕ). get_or ls (m - 1) 0) (sym (lengths_are K y m x.0.inside))
-          ∙ sym (days_in K y m x.0.inside (omega arith))
-          ∙ ap (λ (a : PositionAnswer). a.days) (sym (position_asked x.0.listed y m))
-      go (no l) = let e : n ≡ 0 = omega arith in e ∙ no_days (nowhere_zero c y m (λ K k f. sym (s.there K k f) ∙ e))
+  pub days_found : (found : S.Option ℕ) → (m ≡ 0 → ⊥) → Sought c y (λ K i. LengthAt K i (m - 1) found) found → IsLength (position_answer c y m).days found
+  days_found None h s = sym (no_days (nowhere_zero c y m s.there))
+  days_found (Some n) h s =
+      let x = year_found s in
+      let K = x.0.calendar in (
+        x.1.0,
+        x.1.1
+            ∙ ap (λ (ls : List ℕ). get_or ls (m - 1) 0) (sym (lengths_are K y m x.0.inside))
+            ∙ sym (days_in K y m x.0.inside (omega (arith, h)))
+            ∙ ap (λ (a : PositionAnswer). a.days) (sym (position_asked x.0.listed y m)),
+      )
 
   -- where there are none, it is none this year or refused,
   pub days_none : (position_answer c y m).days ≡ 0 → none_there c m (none_number c y) ≡ position_answer c y m
@@ -328,36 +322,44 @@ module _ (c : ℕ) (y : ℤ) (m : ℕ) where
       go (Option.some K) e z = in_year K (record { row = e }) (year_out K y) refl z
 
   -- and where there are some, a strip or a month, as the calendar's strip says
-  days_there : (n p : ℕ) → n ≡ (position_answer c y m).days → (n ≡ 0 → ⊥) → OfListed c (λ K. p ≡ strip_or0 K.strip)
-      → ◌≡◌ {A = PositionAnswer} (record { number = 0; kind = kind_at p m; days = n }) (position_answer c y m)
+  days_there : (n : ℕ) (t : Bool) → IsLength (position_answer c y m).days (Some n) → OfListed c (λ K. is_strip K.strip m ≡ t)
+      → ◌≡◌ {A = PositionAnswer} (record { number = 0; kind = cond t Kind.strip Kind.month; days = n }) (position_answer c y m)
   unfolding position_answer position_for
-  days_there n p e h f = go (calendar c) refl e
+  days_there n t d f = go (calendar c) refl d.1
     where
-      in_calendar : (K : Calendar) → Listed c K → (t u : Bool) → no_position K y m ≡ u → (v : Bool) → no_days_that_year K y m ≡ v
+      h : n ≡ 0 → ⊥
+      h e = omega (arith, d.0, e)
+
+      in_calendar : (K : Calendar) → Listed c K → (o u : Bool) → no_position K y m ≡ u → (v : Bool) → no_days_that_year K y m ≡ v
           → let x : PositionAnswer =
-          cond t (no_position_answer 2)
+          cond o (no_position_answer 2)
           (cond u (no_position_answer 3)
           (record { number = 0; kind = cond v Kind.none (cond (is_strip K.strip m) Kind.strip Kind.month); days = length_in K y m })) in
-          n ≡ x.days → ◌≡◌ {A = PositionAnswer} (record { number = 0; kind = kind_at p m; days = n }) x
+          n ≡ x.days → ◌≡◌ {A = PositionAnswer} (record { number = 0; kind = cond t Kind.strip Kind.month; days = n }) x
       in_calendar K l true u q v d e = absurd (h e)
       in_calendar K l false true q v d e = absurd (h e)
       in_calendar K l false false q true d e = absurd (h (e ∙ eqb-true (length_in K y m) 0 d))
-      in_calendar K l false false q false d e =
-          let z = eqb-false m 0 (neither (month_zero m) (above_positions K y m) q).0 in
-          let s : eqb m p ≡ is_strip K.strip m = ap (eqb m) (f K l) ∙ is_strip_lem K.strip m z in
-          λ j. record { number = 0; kind = cond (s j) Kind.strip Kind.month; days = e j }
+      in_calendar K l false false q false d e = λ j. record { number = 0; kind = cond (sym (f K l) j) Kind.strip Kind.month; days = e j }
 
       go : (o : Option Calendar) → calendar c ≡ o → n ≡ (of_listed o (no_position_answer 1) (λ K. position_for K y m)).days
-          → ◌≡◌ {A = PositionAnswer} (record { number = 0; kind = kind_at p m; days = n }) (of_listed o (no_position_answer 1) (λ K. position_for K y m))
+          → ◌≡◌ {A = PositionAnswer} (record { number = 0; kind = cond t Kind.strip Kind.month; days = n }) (of_listed o (no_position_answer 1) (λ K. position_for K y m))
       go Option.none g e = absurd (h e)
       go (Option.some K) g e = in_calendar K (record { row = g }) (year_out K y) (no_position K y m) refl (no_days_that_year K y m) refl e
 
-  module _ (n p : ℕ) (e : n ≡ (position_answer c y m).days) (h : n ≡ 0 → ⊥) (f : OfListed c (λ K. p ≡ strip_or0 K.strip)) where
-    pub strip_there : m ≡ p → ◌≡◌ {A = PositionAnswer} (record { number = 0; kind = Kind.strip; days = n }) (position_answer c y m)
-    strip_there g = rw (eq-eqb m p g) at (days_there n p e h f)
+  module _ {n : ℕ} {strip : S.Option ℕ} (d : IsLength (position_answer c y m).days (Some n)) (f : OfListed c (λ K. strip ≡ given K.strip)) where
+    pub strip_there : strip ≡ Some m → ◌≡◌ {A = PositionAnswer} (record { number = 0; kind = Kind.strip; days = n }) (position_answer c y m)
+    strip_there g = days_there n true d (λ K l. it_is K.strip (sym (f K l) ∙ g))
+      where
+        it_is : (o : Option ℕ) → given o ≡ Some m → is_strip o m ≡ true
+        it_is Option.none e = absurd (true≢false (sym (ap is_some e)))
+        it_is (Option.some p) e = eq-eqb m p (sym (ap (λ (x : S.Option ℕ). S.unwrap_or x 0) e))
 
-    pub month_there : ¬ (m ≡ p) → ◌≡◌ {A = PositionAnswer} (record { number = 0; kind = Kind.month; days = n }) (position_answer c y m)
-    month_there g = rw (ne_eqb m p g) at (days_there n p e h f)
+    pub month_there : (strip ≡ Some m → ⊥) → ◌≡◌ {A = PositionAnswer} (record { number = 0; kind = Kind.month; days = n }) (position_answer c y m)
+    month_there g = days_there n false d (λ K l. it_is_not K.strip (λ e. g (f K l ∙ e)))
+      where
+        it_is_not : (o : Option ℕ) → (given o ≡ Some m → ⊥) → is_strip o m ≡ false
+        it_is_not Option.none n = refl
+        it_is_not (Option.some p) n = ne_eqb m p (λ e. n (ap S.Some (sym e)))
 
 -- which of those without days are none this year
 module _ (c m : ℕ) where
@@ -497,22 +499,18 @@ module _ {c : ℕ} {K : Calendar} (l : Listed c K) (n : ℕ) where
   early_month k h = rw (le-ltb last_day n k, lt-ltb n K.first_day h) refl
 
   -- the date that was found is the one that is answered
-  placed_date : {y : ℤ} {m d : ℕ} → PlaceTo K (last_of K) n y m d
-      → (m ≡ (date_for K n).month) × ((m ≡ 0 → ⊥) → (y ≡ (date_for K n).year) × (d ≡ (date_for K n).day))
-  placed_date {y} {m} {d} p = go (dec_lt (last_of K) n) (dec_lt n K.first_day)
-    where
-      go : Dec (last_of K < n) → Dec (n < K.first_day) → (m ≡ (date_for K n).month) × ((m ≡ 0 → ⊥) → (y ≡ (date_for K n).year) × (d ≡ (date_for K n).day))
-      go (yes k) b = (p.late k ∙ sym (late_month k), λ e. absurd (e (p.late k)))
-      go (no k) (yes h) =
-          let z = (p.in_time (omega arith)).early h in
-          (z ∙ sym (early_month (last_in K.end (omega arith)).0 h), λ e. absurd (e z))
-      go (no k) (no h) =
-          let D = (p.in_time (omega arith)).there (omega arith) in
-          rw (answered K n (omega arith) (omega arith)) (D.month, λ e. (D.year, D.day))
+  placed_date : (found : S.Option Place) → PlaceTo K (last_of K) n found → IsDate (date_for K n) found
+  placed_date None (inl h) = early_month (omega (arith, h, (listed_sound l).to_last, last_small K.end)) h
+  placed_date None (inr h) = late_month h
+  placed_date (Some date) p =
+      let e = answered K n p.1.0 p.0 in
+      let D = p.1.1 in
+      rw e ((λ z. omega (arith, month_from_1 p.1.0 p.0, ap (λ (a : DateAnswer). a.month) e, z)), D.year, D.month, D.day)
 
--- the date of a day that is not too late, of a calendar that did not end
-pub to_last : {K : Calendar} {n : ℕ} {y : ℤ} {m d : ℕ} → n ≤ last_day → PlaceOf K n y m d → PlaceTo K last_day n y m d
-to_last h p = record { late = λ l. absurd (omega arith); in_time = λ l. p }
+-- the date of a day that is not too late
+pub to_last : (K : Calendar) {last n : ℕ} (found : S.Option Place) → n ≤ last → PlaceAt K n found → PlaceTo K last n found
+to_last K None h p = inl p
+to_last K (Some date) h p = (h, p)
 
 module _ (c n : ℕ) where
   -- what holds of the refusal of a number that is not listed, and of what its calendar answers
@@ -524,19 +522,11 @@ module _ (c n : ℕ) where
       go Option.none e = r e
       go (Option.some K) e = f K (record { row = e })
 
-  pub late_date : {y : ℤ} {m d : ℕ} → m ≡ 0 → last_day < n → Found c n y m d
-  late_date {y} {m} {d} z h =
-      record {
-        month = of_answer (λ a. m ≡ a.month) (λ e. z) (λ K l. z ∙ sym (late_month l n (omega (arith, last_small K.end))));
-        rest = λ e. absurd (e z);
-      }
+  pub late_date : last_day < n → (date_answer c n).month ≡ 0
+  late_date h = of_answer (λ a. a.month ≡ 0) (λ e. refl) (λ K l. late_month l n (omega (arith, last_small K.end)))
 
-  pub date_found : {y : ℤ} {m d : ℕ} → Answered c (λ K. PlaceTo K (last_of K) n y m d) m → Found c n y m d
-  date_found {y} {m} {d} p =
-      record {
-        month = of_answer (λ a. m ≡ a.month) p.off (λ K l. (placed_date l n (p.on K l)).0);
-        rest = of_answer (λ a. (m ≡ 0 → ⊥) → (y ≡ a.year) × (d ≡ a.day)) (λ e h. absurd (h (p.off e))) (λ K l. (placed_date l n (p.on K l)).1);
-      }
+  pub date_found : (found : S.Option Place) → Answered c (λ K. PlaceTo K (last_of K) n found) found → IsDate (date_answer c n) found
+  date_found found p = of_answer (λ a. IsDate a found) (λ e. rw (p.off e) refl) (λ K l. placed_date l n found (p.on K l))
 
   -- and back: it is refused where its month is 0, and only there
   pub date_refused : (date_answer c n).month ≡ 0

@@ -1,55 +1,29 @@
 -- The calendars by their numbers, as the matches of code meet them.
 use mathlib.Core.Option.{Option}
+use Rattle.std.specs.Prelude as S
 use mathlib.Core.Path.{◌≡◌, refl, sym, ap, subst, ◌∙◌}
-use mathlib.Core.Logic.{inl, inr}
 use mathlib.Core.Bool.{Bool, true, false, cond, ◌||◌, true≢false}
-use Prim.Native.Nat.{ℕ, zero, suc, ◌+◌, ◌-◌, ◌/◌, ◌%◌, ◌^◌, ◌≤◌, ◌<◌}
+use Prim.Native.Nat.{ℕ, ◌-◌, ◌≤◌, ◌<◌}
 use native.Mathlib.Decide.{dec_lt}
 use native.Mathlib.Omega.{arith}
-use borrow.Author.Tests.{lt-ltb, le-ltb, ne_eqb, eq-eqb, eqb-true}
-use lib.Dec.{eqb, ltb}
+use borrow.Author.Tests.{lt-ltb, le-ltb, ne_eqb, eq-eqb}
+use lib.Dec.{eqb}
 use lib.IntN.{ℤ, pos, negsuc}
 use lib.Signed.{lt_z}
-use Rattle.basics.specs.Every.{every, All}
+use Rattle.basics.specs.Every.{All}
 use Rattle.basics.proofs.Cases.{cond_elim, neither}
-use Rattle.basics.proofs.Every.{every_at}
 use Rattle.counting.specs.Years.{year_at, years_from}
 use Rattle.counting.specs.Answers.{Calendar, last_year, year_out, last_of}
 use Rattle.counting.proofs.Signs.{not_before, place_back}
-use Rattle.calendar_rules.specs.Calendars.{table, lookup, calendar, Listed}
+use Rattle.calendar_rules.specs.Calendars.{table, calendar, Listed}
 use Rattle.calendar_rules.specs.Answers.{of_listed}
-use Rattle.calendar_rules.specs.Given.{IsListed}
 use Rattle.calendar_rules.proofs.Claims.{last_day_lem}
-use Rattle.calendar_rules.proofs.Given.{is_listed}
-use Rattle.calendar_rules.proofs.Listed.{not_listed, found_row, strip_is}
-use Rattle.asking.specs.Steps.{listed, OfListed, Answered, Sought, strip_or0}
+use Rattle.calendar_rules.proofs.Listed.{found_row, strip_is}
+use Rattle.asking.specs.Steps.{listed, OfListed, Answered, Sought, given}
 
 -- an arm of a match: the calendar of its number
 pub arm : {c : ℕ} (n : ℕ) {K' : Calendar} (P : Calendar → Type 0) → c ≡ n → calendar n ≡ Option.some K' → P K' → OfListed c P
 arm n {K'} P e r p K l = let f = l.row in let g : K' ≡ K = cc in subst P g p
-
--- c is none of 1 to k, as the last arm of a match has it
-abbrev pub NoneTo : ℕ → ℕ → Type 0
-NoneTo zero c = Unit {0}
-NoneTo (suc k) c = NoneTo k c × (c ≡ suc k → ⊥)
-
-past : (k c : ℕ) → NoneTo k c → 1 ≤ c → k < c
-past zero c n h = h
-past (suc k) c n h = omega (arith, past k c n.0 h, n.1)
-
--- and none of the other numbers that are listed
-pub none_left : {c : ℕ} → NoneTo 9 c → (c ≡ 10 → ⊥) → (c ≡ 11 → ⊥) → (c ≡ 12 → ⊥) → (c ≡ 13 → ⊥)
-    → (c ≡ 14 → ⊥) → (c ≡ 15 → ⊥) → (c ≡ 18 → ⊥)
-    → ¬ IsListed c
-none_left {c} n a b d e f g h (inl x) = not_both (three (three (past 9 c n x.0) a b d) e f g) x.1
-  where
-    -- past three more
-    three : {k c : ℕ} → k < c → (c ≡ k + 1 → ⊥) → (c ≡ k + 2 → ⊥) → (c ≡ k + 3 → ⊥) → k + 3 < c
-    three h a b d = omega arith
-
-    not_both : {a b : ℕ} → a < b → b ≤ a → ⊥
-    not_both h k = omega arith
-none_left n a b d e f g h (inr x) = h x
 
 -- 1 where there is a calendar
 some : Option Calendar → ℕ
@@ -60,38 +34,14 @@ pub never : {A : Type 0} {K : Calendar} → Option.some K ≡ Option.none → A
 unfolding some
 never e = absurd (omega (arith, ap some e))
 
-pub on_arm : {c : ℕ} (n : ℕ) {K' : Calendar} (P : Calendar → Type 0) {x : ℕ} → c ≡ n → calendar n ≡ Option.some K' → P K' → Answered c P x
+pub on_arm : {A : Type 0} {c : ℕ} (n : ℕ) {K' : Calendar} (P : Calendar → Type 0) {found : S.Option A} → c ≡ n → calendar n ≡ Option.some K' → P K'
+    → Answered c P found
 on_arm n P e r p = record { on = arm n P e r p; off = λ f. never (sym r ∙ ap calendar (sym e) ∙ f) }
 
-pub off_arm : {c : ℕ} (P : Calendar → Type 0) {x : ℕ} → calendar c ≡ Option.none → x ≡ 0 → Answered c P x
-off_arm P n z = record { on = λ K l. never (sym l.row ∙ n); off = λ f. z }
-
-pub nobody : (c : ℕ) → (¬ IsListed c) → calendar c ≡ Option.none
-nobody c n = go (calendar c) refl
-  where
-    go : (o : Option Calendar) → calendar c ≡ o → calendar c ≡ Option.none
-    go Option.none e = e
-    go (Option.some K) e = absurd (n (is_listed {K = K} (record { row = e })))
+pub off_arm : {A : Type 0} {c : ℕ} (P : Calendar → Type 0) → calendar c ≡ Option.none → Answered {A = A} c P S.None
+off_arm P n = record { on = λ K l. never (sym l.row ∙ n); off = λ f. refl }
 
 -- ---- which numbers are listed, and the first years
-
-listed_test : every (λ c. eqb (cond (listed c) 1 0) (327678 / 2 ^ c % 2)) 19 ≡ true
-unfolding every listed calendar lookup
-listed_test = refl
-
-pub listed_is : (c : ℕ) → c ≤ 18 → eqb (327678 / 2 ^ c % 2) 1 ≡ listed c
-listed_is c h =
-    let e = eqb-true (cond (listed c) 1 0) (327678 / 2 ^ c % 2)
-    (every_at (λ c. eqb (cond (listed c) 1 0) (327678 / 2 ^ c % 2)) 19 listed_test c (omega arith)) in
-    ap (λ (k : ℕ). eqb k 1) (sym e) ∙ go (listed c)
-  where
-    go : (t : Bool) → eqb (cond t 1 0) 1 ≡ t
-    go true = refl
-    go false = refl
-
-pub no_listing : (c : ℕ) → 18 < c → listed c ≡ false
-unfolding listed
-no_listing c h = rw (not_listed c (omega arith)) refl
 
 -- a calendar that is listed
 pub listed_some : (c : ℕ) → listed c ≡ true → (K : Calendar) × Listed c K
@@ -144,26 +94,17 @@ module _ {c : ℕ} {K : Calendar} (l : Listed c K) where
 
 -- the strips: of the Persian and the Bahai calendar, of the others up to 7, and of no more
 module _ {c : ℕ} {K : Calendar} (l : Listed c K) where
-  strip_or_0 : strip_or0 K.strip ≡ cond (eqb c 4) 9 (cond (eqb c 14) 19 (cond (ltb c 8) 13 0))
-  strip_or_0 = ap strip_or0 (strip_is l) ∙ go (eqb c 4) (eqb c 14) (ltb c 8)
-    where
-      go : (t u v : Bool) → strip_or0 (cond t (Option.some 9) (cond u (Option.some 19) (cond v (Option.some 13) Option.none))) ≡ cond t 9 (cond u 19 (cond v 13 0))
-      go true u v = refl
-      go false true v = refl
-      go false false true = refl
-      go false false false = refl
+  pub strip_persian : c ≡ 4 → given K.strip ≡ S.Some 9
+  strip_persian e = ap given (strip_is l) ∙ rw e refl
 
-  pub strip_persian : c ≡ 4 → strip_or0 K.strip ≡ 9
-  strip_persian e = strip_or_0 ∙ rw e refl
+  pub strip_bahai : c ≡ 14 → given K.strip ≡ S.Some 19
+  strip_bahai e = ap given (strip_is l) ∙ rw e refl
 
-  pub strip_bahai : c ≡ 14 → strip_or0 K.strip ≡ 19
-  strip_bahai e = strip_or_0 ∙ rw e refl
+  pub strip_thirteenth : ¬ (c ≡ 4) → c < 8 → given K.strip ≡ S.Some 13
+  strip_thirteenth n h = ap given (strip_is l) ∙ rw (ne_eqb c 4 n, ne_eqb c 14 (omega arith), lt-ltb c 8 h) refl
 
-  pub strip_thirteenth : ¬ (c ≡ 4) → c < 8 → strip_or0 K.strip ≡ 13
-  strip_thirteenth n h = strip_or_0 ∙ rw (ne_eqb c 4 n, ne_eqb c 14 (omega arith), lt-ltb c 8 h) refl
-
-  pub strip_none : ¬ (c ≡ 14) → 8 ≤ c → strip_or0 K.strip ≡ 0
-  strip_none n h = strip_or_0 ∙ rw (ne_eqb c 4 (omega arith), ne_eqb c 14 n, le-ltb c 8 h) refl
+  pub strip_none : ¬ (c ≡ 14) → 8 ≤ c → given K.strip ≡ S.None
+  strip_none n h = ap given (strip_is l) ∙ rw (ne_eqb c 4 (omega arith), ne_eqb c 14 n, le-ltb c 8 h) refl
 
 -- ---- a position, or its length, that was sought of the year that is y years after -4712
 
@@ -189,24 +130,24 @@ module _ (y : ℕ) (h : y ≤ 24712) where
       go (yes k) = rw (lt-ltb y 4712 k) refl
       go (no k) = rw (le-ltb y 4712 (omega arith)) (lt-ltb (y - 4712) 1 (omega arith))
 
-  module _ {c : ℕ} {P : Calendar → ℕ → Type 0} {days : ℕ} where
+  module _ {A : Type 0} {c : ℕ} {P : Calendar → ℕ → Type 0} {found : S.Option A} where
     -- an arm
     sought : (n : ℕ) (K' : Calendar) → c ≡ n → calendar n ≡ Option.some K' → year_out K' year ≡ false → P K' (years_from K'.first_year year)
-        → Sought c year P days
+        → Sought c year P found
     sought n K' e r f p =
         record {
           off = λ g. never (sym r ∙ ap calendar (sym e) ∙ g);
-          out = arm n (λ K. year_out K year ≡ true → days ≡ 0) e r (λ t. absurd (true≢false (sym t ∙ f)));
+          out = arm n (λ K. year_out K year ≡ true → found ≡ S.None) e r (λ t. absurd (true≢false (sym t ∙ f)));
           there = arm n (λ K. year_out K year ≡ false → P K (years_from K.first_year year)) e r (λ t. p);
         }
 
     -- of a calendar whose first year is -4712, and of those whose first year is 1
-    pub from_first : (n : ℕ) (K' : Calendar) → c ≡ n → calendar n ≡ Option.some K' → K'.first_year ≡ negsuc 4711 → P K' y → Sought c year P days
+    pub from_first : (n : ℕ) (K' : Calendar) → c ≡ n → calendar n ≡ Option.some K' → K'.first_year ≡ negsuc 4711 → P K' y → Sought c year P found
     from_first n K' e r f p =
         sought n K' e r (rw (f, not_before (negsuc 4711) y, in_time) refl)
         (subst (P K') (sym (ap (λ (z : ℤ). years_from z year) f ∙ place_back (negsuc 4711) y)) p)
 
-    pub from_1 : (c ≡ 10 → ⊥) → (c ≡ 11 → ⊥) → 4713 ≤ y → Answered c (λ K. P K (y - 4713)) days → Sought c year P days
+    pub from_1 : (c ≡ 10 → ⊥) → (c ≡ 11 → ⊥) → 4713 ≤ y → Answered c (λ K. P K (y - 4713)) found → Sought c year P found
     from_1 a b l p =
         record {
           off = p.off;
@@ -224,7 +165,7 @@ module _ (y : ℕ) (h : y ≤ 24712) where
         inside K k = rw (first K k, ap (λ (z : ℤ). lt_z z (pos 1)) (since_1 l) ∙ not_before (pos 1) (y - 4713), in_time) refl
 
     -- before year 1 of one of the others
-    pub too_early : days ≡ 0 → (c ≡ 10 → ⊥) → (c ≡ 11 → ⊥) → y < 4713 → Sought c year P days
+    pub too_early : found ≡ S.None → (c ≡ 10 → ⊥) → (c ≡ 11 → ⊥) → y < 4713 → Sought c year P found
     too_early z a b l =
         record {
           off = λ g. z;

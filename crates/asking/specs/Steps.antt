@@ -1,12 +1,13 @@
 -- For code: the answers as plain numbers, and in steps: the position of a year, the day in it. Nobody has to believe this page.
-use Rattle.std.specs.Prelude.{ℕ, ◌+◌, ◌-◌, ◌*◌, ◌^◌, Bool, true, false, cond, not, ◌&&◌, ◌||◌, ◌≡◌, eqb, ltb, ℤ, negsuc}
-use Rattle.std.proofs.Math.Option.{Option}
+use Rattle.std.specs.Prelude.{ℕ, ◌+◌, ◌-◌, ◌*◌, ◌^◌, Bool, true, false, cond, not, ◌&&◌, ◌||◌, ◌≡◌, eqb, ltb, ℤ, negsuc, Option, None, MatchOption, Some}
+use Rattle.std.proofs.Math.Option as maybe
 use Rattle.std.specs.Int.Signed.{lt_z}
 use Rattle.counting.specs.Years.{years_from}
-use Rattle.counting.specs.Answers.{Calendar, DayAnswer, no_day_answer, last_day, last_year, year_out, ended, wrong_weekday, last_of}
+use Rattle.counting.specs.Answers.{Calendar, DayAnswer, DateAnswer, no_day_answer, last_day, last_year, year_out, ended, wrong_weekday, last_of}
 use Rattle.counting.specs.Positions.{Kind, PositionAnswer, no_position_answer}
 use Rattle.calendar_rules.specs.Calendars.{calendar, Listed}
-use Rattle.calendar_rules.specs.Answers.{of_listed, date_answer}
+use Rattle.calendar_rules.specs.Answers.{of_listed}
+use Rattle.parts.specs.declared.Place.{Place}
 
 unfoldable pub listed : ℕ → Bool
 listed c = of_listed (calendar c) false (λ K. true)
@@ -15,10 +16,10 @@ listed c = of_listed (calendar c) false (λ K. true)
 abbrev pub OfListed : ℕ → (Calendar → Type 0) → Type 0
 OfListed c P = (K : Calendar) → Listed c K → P K
 
--- what an arm of a match finds: P holds of the calendar, and x is 0 where there is none
-pub record Answered (c : ℕ) (P : Calendar → Type 0) (x : ℕ) : Type 0 where
+-- what an arm of a match finds: P holds of the calendar, and nothing is found where there is none
+pub record Answered {A : Type 0} (c : ℕ) (P : Calendar → Type 0) (found : Option A) : Type 0 where
   pub on : OfListed c P
-  pub off : calendar c ≡ Option.none → x ≡ 0
+  pub off : calendar c ≡ maybe.none → found ≡ None
 
 -- an answer as one number: the answer number 2^32 high
 abbrev pub packed_day : DayAnswer → ℕ
@@ -39,13 +40,10 @@ packed_none c y = none_number c y * 2 ^ 32
 abbrev pub none_there : ℕ → ℕ → ℕ → PositionAnswer
 none_there c m k = cond (eqb k 3 && eqb c 18 && eqb m 7) (record { number = 0; kind = Kind.none; days = 0 }) (no_position_answer k)
 
--- the kind of a position that has days, where the calendar's strip, or 0, is p
-abbrev pub kind_at : ℕ → ℕ → Kind
-kind_at p m = cond (eqb m p) Kind.strip Kind.month
-
-abbrev pub strip_or0 : Option ℕ → ℕ
-strip_or0 Option.none = 0
-strip_or0 (Option.some p) = p
+-- an Option of the rules as one of code
+abbrev pub given : maybe.Option ℕ → Option ℕ
+given maybe.none = None
+given (maybe.some p) = Some p
 
 -- some calendar may have year y
 abbrev pub year_inside : ℤ → Bool
@@ -55,10 +53,10 @@ year_inside y = not (lt_z y (negsuc 4711) || lt_z last_year y)
 unfoldable pub years_since : ℤ → ℕ
 years_since y = cond (year_inside y) (years_from (negsuc 4711) y) 0
 
--- what was found of year y, where P is to hold of the calendar and the years from its first, and days are 0 where there is no such year
-pub record Sought (c : ℕ) (y : ℤ) (P : Calendar → ℕ → Type 0) (days : ℕ) : Type 0 where
-  pub off : calendar c ≡ Option.none → days ≡ 0
-  pub out : OfListed c (λ K. year_out K y ≡ true → days ≡ 0)
+-- what was found of year y, where P is to hold of the calendar and the years from its first, and nothing is found where there is no such year
+pub record Sought {A : Type 0} (c : ℕ) (y : ℤ) (P : Calendar → ℕ → Type 0) (found : Option A) : Type 0 where
+  pub off : calendar c ≡ maybe.none → found ≡ None
+  pub out : OfListed c (λ K. year_out K y ≡ true → found ≡ None)
   pub there : OfListed c (λ K. year_out K y ≡ false → P K (years_from K.first_year y))
 
 -- a day of a date that the calendar has: 17 and 5, which are tried
@@ -72,9 +70,9 @@ on_day K n =
 abbrev pub in_range : ℕ → ℕ
 in_range n = cond (ltb last_day n) (5 * 2 ^ 32) n
 
-unfoldable pub try_end : Option ℕ → ℕ → ℕ
-try_end Option.none r = r
-try_end (Option.some e) r = cond (ltb e r && (ltb r (2 ^ 32) || eqb r (5 * 2 ^ 32))) (17 * 2 ^ 32) r
+unfoldable pub try_end : maybe.Option ℕ → ℕ → ℕ
+try_end maybe.none r = r
+try_end (maybe.some e) r = cond (ltb e r && (ltb r (2 ^ 32) || eqb r (5 * 2 ^ 32))) (17 * 2 ^ 32) r
 
 unfoldable pub end_tried : ℕ → ℕ → ℕ
 end_tried c r = of_listed (calendar c) r (λ K. try_end K.end r)
@@ -87,7 +85,8 @@ day_in K b l d = cond (eqb d 0 || ltb l d) (no_day_answer 4) (on_day K (b + (d -
 abbrev pub why_not : Calendar → ℕ → ℕ
 why_not K n = cond (ltb last_day n) 5 (cond (ltb (last_of K) n) 17 5)
 
--- the date that was found of day n: month 0 where it is refused, and then year and day are open
-pub record Found (c n : ℕ) (y : ℤ) (m d : ℕ) : Type 0 where
-  pub month : m ≡ (date_answer c n).month
-  pub rest : (m ≡ 0 → ⊥) → (y ≡ (date_answer c n).year) × (d ≡ (date_answer c n).day)
+-- the date that is answered, as it is found: none where it is refused, with month 0
+abbrev pub IsDate : DateAnswer → Option Place → Type 0
+IsDate answer found =
+    MatchOption found (answer.month ≡ 0)
+    (λ date. (answer.month ≡ 0 → ⊥) × (date.year ≡ answer.year) × (date.month ≡ answer.month) × (date.day ≡ answer.day))

@@ -7,7 +7,10 @@ ghost use Rattle.calendar_rules.specs.Answers.{day_answer_with, date_answer, pos
 ghost use Rattle.calendars.specs.Paper.{date_paper, position_paper};
 ghost use Rattle.c_dates.specs.Fields.{day_fields, date_fields, position_fields};
 
-use calendars::{Dated, Position};
+use calendars::{Date, Position};
+use listing::Calendar;
+use parts::PackedDay;
+use refusals::Refusal;
 
 // struct ijok_day
 #[repr(C)]
@@ -37,23 +40,64 @@ pub struct PositionFields {
     pub days: u64,
 }
 
-// enum ijok_kind
+// enum ijok_kind: numbers, since C gets them.
 const NONE: u64 = 0;
 
 const MONTH: u64 = 1;
 
 const STRIP: u64 = 2;
 
-fn day_fields(r: u64) -> DayFields
-    ensures { (result.number ≡ r / 4294967296) × (result.day ≡ r % 4294967296) }
-{
-    DayFields {
-        number: r / 0x1_0000_0000,
-        day: r % 0x1_0000_0000,
+const HEBREW: u64 = Calendar::Hebrew as u64;
+
+impl From<Result<Date, Refusal>> for DateFields {
+    ghost from_gives = { λ answer fields. date_fields fields ≡ date_paper answer };
+
+    fn from(answer: Result<Date, Refusal>) -> DateFields {
+        match answer {
+            Ok(date) => DateFields {
+                number: 0,
+                year: date.year,
+                month: date.month,
+                day: date.day,
+                weekday: date.weekday,
+            },
+            Err(why) => DateFields {
+                number: u64::from(why),
+                year: 0,
+                month: 0,
+                day: 0,
+                weekday: 0,
+            },
+        }
     }
 }
 
-// The day of a date: by its one number, since an enum would be handed over through memory. Hebrew dates without a weekday are asked for apart: the compiler
+impl From<Result<Position, Refusal>> for PositionFields {
+    ghost from_gives = { λ answer fields. fields ≡ position_fields (position_paper answer) };
+
+    fn from(answer: Result<Position, Refusal>) -> PositionFields {
+        let (number, kind, days) = match answer {
+            Ok(Position::Month(days)) => (0, MONTH, days),
+            Ok(Position::Strip(days)) => (0, STRIP, days),
+            Ok(Position::None) => (0, NONE, 0),
+            Err(why) => (u64::from(why), NONE, 0),
+        };
+        PositionFields { number, kind, days }
+    }
+}
+
+impl From<PackedDay> for DayFields {
+    ghost from_gives = { λ found fields. (fields.number ≡ found.number / 4294967296) × (fields.day ≡ found.number % 4294967296) };
+
+    fn from(found: PackedDay) -> DayFields {
+        DayFields {
+            number: found.number / 0x1_0000_0000,
+            day: found.number % 0x1_0000_0000,
+        }
+    }
+}
+
+// The day of a date: by its one number. Hebrew dates without a weekday are asked for apart: the compiler
 // then keeps the Hebrew part a function of its own, and the other calendars need not save the registers that it uses.
 #[unsafe(no_mangle)]
 pub extern "C" fn ijok_date_to_day(
@@ -65,12 +109,10 @@ pub extern "C" fn ijok_date_to_day(
 ) -> DayFields
     ensures { day_fields result ≡ day_answer_with calendar year month day weekday }
 {
-    if calendar == 18 {
-        if weekday == 0 {
-            return day_fields(numbering::hebrew_day(year, month, day));
-        }
+    if calendar == HEBREW && weekday == 0 {
+        return DayFields::from(numbering::hebrew_day(year, month, day));
     }
-    day_fields(weekdays::packed_day(calendar, year, month, day, weekday))
+    DayFields::from(weekdays::packed_day(calendar, year, month, day, weekday))
 }
 
 // The date of a day.
@@ -78,28 +120,7 @@ pub extern "C" fn ijok_date_to_day(
 pub extern "C" fn ijok_day_to_date(calendar: u64, day: u64) -> DateFields
     ensures { date_fields result ≡ date_answer calendar day }
 {
-    date_fields(calendars::day_to_date(calendar, day))
-}
-
-fn date_fields(answer: Dated) -> DateFields
-    ensures { date_fields result ≡ date_paper answer }
-{
-    match answer {
-        Dated::On(date) => DateFields {
-            number: 0,
-            year: date.year,
-            month: date.month,
-            day: date.day,
-            weekday: date.weekday,
-        },
-        Dated::Refused(why) => DateFields {
-            number: refusals::wide_number(why),
-            year: 0,
-            month: 0,
-            day: 0,
-            weekday: 0,
-        },
-    }
+    DateFields::from(calendars::day_to_date(calendar, day))
 }
 
 // What a position of a year is, and its length.
@@ -107,32 +128,5 @@ fn date_fields(answer: Dated) -> DateFields
 pub extern "C" fn ijok_position(calendar: u64, year: i64, position: u64) -> PositionFields
     ensures { result ≡ position_fields (position_answer calendar year position) }
 {
-    position_fields(calendars::position_of(calendar, year, position))
-}
-
-fn position_fields(answer: Position) -> PositionFields
-    ensures { result ≡ position_fields (position_paper answer) }
-{
-    match answer {
-        Position::Month(days) => PositionFields {
-            number: 0,
-            kind: MONTH,
-            days,
-        },
-        Position::Strip(days) => PositionFields {
-            number: 0,
-            kind: STRIP,
-            days,
-        },
-        Position::None => PositionFields {
-            number: 0,
-            kind: NONE,
-            days: 0,
-        },
-        Position::Refused(why) => PositionFields {
-            number: refusals::wide_number(why),
-            kind: NONE,
-            days: 0,
-        },
-    }
+    PositionFields::from(calendars::position_of(calendar, year, position))
 }

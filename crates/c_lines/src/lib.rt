@@ -6,14 +6,12 @@ ghost use Rattle.std.specs.Prelude.{◌≡◌};
 ghost use Rattle.lines.specs.Fit.{fit_of};
 ghost use Rattle.lines.specs.Unfold.{unfold_number, unfold_buffer};
 ghost use Rattle.fitting.specs.Paper.{fit_paper};
-ghost use Rattle.unfolding.specs.Paper.{unfold_paper};
 ghost use Rattle.c_lines.specs.Fields.{line_fields};
 
 use codes::Line;
-use fitting::Fitted;
-use unfolding::Unfolded;
+use refusals::Refusal;
 
-// struct ijok_line
+// struct ijok_line, the C interface: the number of a refusal, or 0, stands beside the fields.
 #[repr(C)]
 #[derive(Drop)]
 pub struct LineFields {
@@ -28,42 +26,33 @@ pub struct LineFields {
 pub extern "C" fn ijok_fit(code: &[u64]) -> LineFields
     ensures { line_fields result ≡ fit_of code.now }
 {
-    line_fields(fitting::fit(code))
+    LineFields::from(fitting::fit(code))
 }
 
-fn line_fields(answer: Fitted) -> LineFields
-    ensures { line_fields result ≡ fit_paper answer }
-{
-    match answer {
-        Fitted::By(line) => LineFields {
-            number: 0,
-            a: line.a,
-            b: line.b,
-            r: line.r,
-        },
-        Fitted::Refused(why) => LineFields {
-            number: refusals::wide_number(why),
-            a: 0,
-            b: 0,
-            r: 0,
-        },
+impl From<Result<Line, Refusal>> for LineFields {
+    ghost from_gives = { λ answer fields. line_fields fields ≡ fit_paper answer };
+
+    fn from(answer: Result<Line, Refusal>) -> LineFields {
+        match answer {
+            Ok(Line { a, b, r }) => LineFields { number: 0, a, b, r },
+            Err(why) => LineFields {
+                number: u64::from(why),
+                a: 0,
+                b: 0,
+                r: 0,
+            },
+        }
     }
 }
 
-// The first `count` lengths that a line yields, to the front of the buffer; the answer is the number alone.
+// The first `count` lengths that a line yields, to the front of the buffer. By the C interface the answer is the number alone.
 #[unsafe(no_mangle)]
 pub extern "C" fn ijok_unfold(a: u64, b: u64, r: u64, count: usize, buffer: &mut [u64]) -> u64
     ensures answer { result ≡ unfold_number a b r count buffer.old }
     ensures whole { buffer.new ≡ unfold_buffer a b r count buffer.old }
 {
-    unfold_number(unfolding::unfold(Line { a, b, r }, count, buffer))
-}
-
-fn unfold_number(answer: Unfolded) -> u64
-    ensures { result ≡ unfold_paper answer }
-{
-    match answer {
-        Unfolded::Done => 0,
-        Unfolded::Refused(why) => refusals::wide_number(why),
+    match unfolding::unfold(Line { a, b, r }, count, buffer) {
+        Ok(()) => 0,
+        Err(why) => u64::from(why),
     }
 }

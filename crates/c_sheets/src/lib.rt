@@ -9,5 +9,5 @@ ghost use Rattle.verdicts.specs.Verdict.{verdict_of};
 pub extern "C" fn ijok_verdict(line: &[u8]) -> u64
     ensures { result ≡ verdict_of line.now }
 {
-    verdicts::number(verdicts::judge_line(line)) as u64
+    u64::from(verdicts::number(verdicts::judge_line(line)))
 }

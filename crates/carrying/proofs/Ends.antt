@@ -1,27 +1,16 @@
--- Where the first line of some bytes ends, byte by byte.
+-- Where the first line of some bytes ends.
 use mathlib.Core.Path.{◌≡◌, refl}
 use mathlib.Core.List.{List, [], ◌∷◌}
-use mathlib.Core.Bool.{Bool, true, false, cond}
-use Prim.Native.Nat.{ℕ, zero, suc, ◌≤◌, ◌<◌}
+use mathlib.Core.Bool.{Bool, true, false, cond, not}
+use Prim.Native.Nat.{ℕ, zero, suc, ◌+◌, ◌≤◌, ◌<◌}
 use native.Mathlib.Omega.{arith}
-use lib.Dec.{eqb}
-use lib.ListN.{length, drop, get_or}
-use lib.Seq.{drop-cons}
-use borrow.Author.Tests.{eqb-true, eqb-false, eq-eqb, ne_eqb}
+use lib.Dec.{eqb, ltb}
+use lib.ListN.{length, get_or}
+use borrow.Author.Tests.{ltb-false, eqb-true, eqb-false}
+use Rattle.std.specs.Prelude.{Some, None, unwrap_or}
+use Rattle.std.specs.List.{position, position_or_len}
 use Rattle.streaming.specs.Lines.{newline}
 use Rattle.carrying.specs.Kept.{line_end}
-
-pub at_newline : (s : List ℕ) (i : ℕ) → i < length s → get_or s i 0 ≡ newline → line_end (drop i s) ≡ 0
-unfolding line_end
-at_newline s i h e = rw (drop-cons s i 0 h, eq-eqb (get_or s i 0) newline e)
-
-pub past_other : (s : List ℕ) (i : ℕ) → i < length s → (get_or s i 0 ≡ newline → ⊥) → line_end (drop i s) ≡ suc (line_end (drop (suc i) s))
-unfolding line_end
-past_other s i h n = rw (drop-cons s i 0 h, ne_eqb (get_or s i 0) newline n)
-
-pub at_end : line_end [] ≡ 0
-unfolding line_end
-at_end = refl
 
 pub within : (s : List ℕ) → line_end s ≤ length s
 unfolding line_end
@@ -52,3 +41,24 @@ newline_there (b ∷ s) h = go (eqb b newline) refl (newline_there s) h
         → get_or (b ∷ s) (cond c 0 (suc (line_end s))) 0 ≡ newline
     go true t r h = eqb-true b newline t
     go false t r h = r (omega arith)
+
+-- as std's `position` finds it
+pub positioned : (s : List ℕ) → unwrap_or (position (λ b. eqb b newline) s) (length s) ≡ line_end s
+unfolding line_end
+positioned s = go (position_or_len (λ b. eqb b newline) s) (same s)
+  where
+    same : (s : List ℕ) → position_or_len (λ b. eqb b newline) s ≡ line_end s
+    same [] = refl
+    same (b ∷ s) = step (eqb b newline) (same s)
+      where
+        step : (c : Bool) → position_or_len (λ b. eqb b newline) s ≡ line_end s
+            → cond (not c) (1 + position_or_len (λ b. eqb b newline) s) 0 ≡ cond c 0 (suc (line_end s))
+        step true e = refl
+        step false e = omega arith
+
+    go : (n : ℕ) → n ≡ line_end s → unwrap_or (cond (ltb n (length s)) (Some n) None) (length s) ≡ line_end s
+    go n e = ends (ltb n (length s)) refl
+      where
+        ends : (c : Bool) → ltb n (length s) ≡ c → unwrap_or (cond c (Some n) None) (length s) ≡ line_end s
+        ends true t = e
+        ends false t = omega (arith, ltb-false n (length s) t, within s)

@@ -2,11 +2,14 @@
 // `proofs/Claims.antt` is the page to read first.
 #![tactic(auto)]
 
-ghost use Rattle.std.specs.Prelude.{◌≡◌, [], ◌++◌, take};
-ghost use Rattle.carrying.specs.Kept.{most, kept_of, line_end, GoneOn};
+ghost use Rattle.std.specs.Prelude.{◌≡◌, ◌==◌, [], ◌++◌, position, take};
+ghost use Rattle.streaming.specs.Lines.{newline};
+ghost use Rattle.carrying.specs.Kept.{most, kept_of, GoneOn};
 
-// What is kept of a line that the pieces so far have not finished: its first bytes, one more than a frame has.
-#[derive(Clone, Copy)]
+// What is kept of a line that the pieces so far have not finished: its first bytes, one more than a frame has. A count beside an array, which no
+// invariant ties to it, since `judging::judge_piece` and `judging::finish` take any state. It doesn't compare by `==`: the bytes past the count
+// mean nothing.
+#[derive(Clone, Copy, Debug)]
 pub struct Unfinished {
     pub bytes: [u8; 17],
     pub count: usize,
@@ -24,18 +27,11 @@ impl Unfinished {
     }
 }
 
-// The place of the first newline, or the length.
-fn line_end(bytes: &[u8]) -> usize
-    ensures { result ≡ line_end bytes.now }
+// The place of the first newline, if there is one.
+fn first_newline(bytes: &[u8]) -> Option<usize>
+    ensures { result ≡ position (λ b. b == newline) bytes.now }
 {
-    let mut i = 0;
-    while i < bytes.len() {
-        if bytes[i] == b'\n' {
-            return i;
-        }
-        i += 1;
-    }
-    i
+    bytes.iter().position(|&b| b == b'\n')
 }
 
 // The line with more bytes.
@@ -45,20 +41,18 @@ fn keep(line: Unfinished, more: &[u8]) -> Unfinished
 {
     let mut bytes = line.bytes;
     let mut count = line.count;
-    let mut i = 0;
-    while i < more.len() {
+    for &b in more {
         if count > 16 {
             return Unfinished { bytes, count };
         }
-        bytes[count] = more[i];
+        bytes[count] = b;
         count += 1;
-        i += 1;
     }
     Unfinished { bytes, count }
 }
 
 // A line as far as some bytes have it, and where they end it: the place of their first newline, or their length where they have none.
-#[derive(Drop)]
+#[derive(Clone, Copy, Debug)]
 pub struct Part {
     pub line: Unfinished,
     pub end: usize,
@@ -68,7 +62,7 @@ pub struct Part {
 pub fn go_on(line: Unfinished, bytes: &[u8]) -> Part
     ensures { GoneOn line bytes.now result }
 {
-    let end = line_end(bytes);
+    let end = first_newline(bytes).unwrap_or(bytes.len());
     Part {
         line: keep(line, &bytes[..end]),
         end,

@@ -10,7 +10,7 @@ pub const MOST_LENGTHS: usize = 512;
 pub const LONGEST: u64 = 400;
 
 // The line whose mark at k is (a k + r) / b rounded down.
-#[derive(Clone, Copy)]
+#[derive(Clone, Copy, Debug, PartialEq, Eq)]
 pub struct Line {
     pub a: u64,
     pub b: u64,
@@ -21,19 +21,5 @@ pub struct Line {
 pub fn within_limits(code: &[u64]) -> bool
     ensures { result ≡ within code.now }
 {
-    let n = code.len();
-    if n == 0 {
-        return false;
-    }
-    if MOST_LENGTHS < n {
-        return false;
-    }
-    let mut k: usize = 0;
-    while k < n {
-        if LONGEST < code[k] {
-            return false;
-        }
-        k += 1;
-    }
-    true
+    !code.is_empty() && code.len() <= MOST_LENGTHS && code.iter().all(|&length| length <= LONGEST)
 }

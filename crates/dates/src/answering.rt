@@ -1,62 +1,28 @@
-// The answer to a request line, whose kind is told by how many numbers it has.
+// The answer to a request, whose kind is told by how many numbers it has.
 use crate::conversions::{answer_date, answer_day};
 use crate::positions::answer_year;
-use crate::reading;
-use crate::reading::{MOST_NUMBERS, Scan};
 use calendars::Date;
-use printing::{Sink, put, put_all};
+use std::io;
+use std::io::Write;
 
-fn put_no_request(rt: &impl Print, sink: Sink, out: &mut [u8]) -> Sink {
-    put_all(rt, sink, b"not a request", out)
+pub(crate) fn no_request(out: &mut impl Write) -> io::Result<()> {
+    write!(out, "not a request")
 }
 
-fn date(minus: bool, numbers: &[u64; MOST_NUMBERS], weekday: u64) -> Date {
-    Date {
-        year: reading::year(minus, numbers[1]),
-        month: numbers[2],
-        day: numbers[3],
+// The year is the second of the numbers.
+pub(crate) fn answer(out: &mut impl Write, numbers: &[u64], year: i64) -> io::Result<()> {
+    let (calendar, month, day, weekday) = match *numbers {
+        [day] => return answer_day(out, day),
+        [calendar, _] => return answer_year(out, calendar, year),
+        [calendar, _, month, day] => (calendar, month, day, 0),
+        [calendar, _, month, day, weekday] => (calendar, month, day, weekday),
+        _ => return no_request(out),
+    };
+    let date = Date {
+        year,
+        month,
+        day,
         weekday,
-    }
-}
-
-fn answer_request(
-    rt: &impl Print,
-    sink: Sink,
-    count: usize,
-    minus: bool,
-    numbers: &[u64; MOST_NUMBERS],
-    out: &mut [u8],
-) -> Sink {
-    let first = numbers[0];
-    match count {
-        1 => answer_day(rt, sink, first, out),
-        2 => answer_year(rt, sink, first, reading::year(minus, numbers[1]), out),
-        4 => answer_date(rt, sink, first, date(minus, numbers, 0), out),
-        5 => answer_date(rt, sink, first, date(minus, numbers, numbers[4]), out),
-        _ => put_no_request(rt, sink, out),
-    }
-}
-
-fn answer_line(
-    rt: &impl Print,
-    scan: Scan,
-    sink: Sink,
-    numbers: &mut [u64; MOST_NUMBERS],
-    out: &mut [u8],
-) -> Sink {
-    match reading::after_space(scan, numbers) {
-        Scan::Space(count, minus) => answer_request(rt, sink, count, minus, numbers, out),
-        _ => put_no_request(rt, sink, out),
-    }
-}
-
-// The answer to a line of which no byte is left, with a newline.
-pub(crate) fn answer(
-    rt: &impl Print,
-    scan: Scan,
-    sink: Sink,
-    numbers: &mut [u64; MOST_NUMBERS],
-    out: &mut [u8],
-) -> Sink {
-    put(rt, answer_line(rt, scan, sink, numbers, out), b'\n', out)
+    };
+    answer_date(out, calendar, date)
 }

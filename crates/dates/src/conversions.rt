@@ -1,40 +1,47 @@
 // The day of a date, and the dates of a day.
-use crate::output::{put_refusal, put_year};
-use calendars::{Date, Dated, Day};
-use printing::{Sink, put, put_number, put_numbers};
+ghost use Rattle.std.specs.Prelude.{OnOk};
+ghost use Rattle.std.specs.Io.KnownBytes.{Appends};
+ghost use Rattle.dates.specs.Text.{date_text};
 
-pub(crate) fn answer_date(
-    rt: &impl Print,
-    sink: Sink,
-    calendar: u64,
-    date: Date,
-    out: &mut [u8],
-) -> Sink {
+use crate::output::write_refusal;
+use calendars::Date;
+use listing::{CALENDARS, Calendar};
+use std::io;
+use std::io::Write;
+
+pub(crate) fn answer_date(out: &mut impl Write, calendar: u64, date: Date) -> io::Result<()> {
     match calendars::date_to_day(calendar, date) {
-        Day::Number(n) => put_number(rt, sink, n, out),
-        Day::Refused(why) => put_refusal(rt, sink, why, out),
+        Ok(day) => write!(out, "{day}"),
+        Err(why) => write_refusal(out, why),
     }
 }
 
-fn put_date(rt: &impl Print, sink: Sink, date: Date, out: &mut [u8]) -> Sink {
-    let rest = [date.month, date.day, date.weekday];
-    put_numbers(rt, put_year(rt, sink, date.year, out), &rest, out)
+fn write_date<W: Write>(out: &mut W, date: Date) -> io::Result<()>
+    ensures { OnOk result (Appends (W.contents out.old) (W.contents out.new) (date_text date)) }
+{
+    write!(
+        out,
+        "{} {} {} {}",
+        date.year, date.month, date.day, date.weekday
+    )
 }
 
 // The day in one calendar, so written that a date can be handed in again.
-fn put_dated(rt: &impl Print, sink: Sink, calendar: u64, day: u64, out: &mut [u8]) -> Sink {
-    let numbered = put(rt, put_number(rt, sink, calendar, out), b' ', out);
+fn answer_day_in(out: &mut impl Write, calendar: u64, day: u64) -> io::Result<()> {
+    write!(out, "{calendar} ")?;
     match calendars::day_to_date(calendar, day) {
-        Dated::On(date) => put_date(rt, numbered, date, out),
-        Dated::Refused(why) => put_refusal(rt, numbered, why, out),
+        Ok(date) => write_date(out, date),
+        Err(why) => write_refusal(out, why),
     }
 }
 
-// A line for each calendar: 1 to 15, and 18.
-pub(crate) fn answer_day(rt: &impl Print, start: Sink, day: u64, out: &mut [u8]) -> Sink {
-    let mut sink = start;
-    for calendar in 1..=15u64 {
-        sink = put(rt, put_dated(rt, sink, calendar, day, out), b'\n', out);
+// A line for each calendar.
+pub(crate) fn answer_day(out: &mut impl Write, day: u64) -> io::Result<()> {
+    for calendar in CALENDARS {
+        if calendar != Calendar::Egyptian {
+            writeln!(out)?;
+        }
+        answer_day_in(out, calendar as u64, day)?;
     }
-    put_dated(rt, sink, 18, day, out)
+    Ok(())
 }

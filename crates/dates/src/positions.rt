@@ -1,57 +1,34 @@
 // The positions of a year.
-use crate::output::put_refusal;
-use calendars::Position;
-use printing::{Sink, put, put_all, put_number};
+use crate::output::write_refusal;
+use calendars::{MOST_POSITIONS, Position};
+use std::io;
+use std::io::Write;
 
-// No calendar has more positions.
-const MOST_POSITIONS: u64 = 20;
-
-// What a position is, without its number.
-fn put_kind(rt: &impl Print, sink: Sink, answer: Position, out: &mut [u8]) -> Sink {
-    match answer {
-        Position::Month(days) => put_number(rt, put_all(rt, sink, b" month ", out), days, out),
-        Position::Strip(days) => put_number(rt, put_all(rt, sink, b" strip ", out), days, out),
-        Position::None => put_all(rt, sink, b" none", out),
-        Position::Refused(_) => sink,
+fn write_position(out: &mut impl Write, number: u64, position: Position) -> io::Result<()> {
+    match position {
+        Position::Month(days) => writeln!(out, "{number} month {days}"),
+        Position::Strip(days) => writeln!(out, "{number} strip {days}"),
+        Position::None => writeln!(out, "{number} none"),
     }
 }
 
-fn put_position(
-    rt: &impl Print,
-    sink: Sink,
-    position: u64,
-    answer: Position,
-    out: &mut [u8],
-) -> Sink {
-    let numbered = put_number(rt, sink, position, out);
-    put(rt, put_kind(rt, numbered, answer, out), b'\n', out)
-}
-
-// A line for each position up to the first that is refused, and the days of all. Twenty lengths are far from wrapping.
-fn put_positions(rt: &impl Print, start: Sink, calendar: u64, year: i64, out: &mut [u8]) -> Sink {
-    let mut sink = start;
-    let mut sum = 0;
-    for position in 1..=MOST_POSITIONS {
-        let answer = calendars::position_of(calendar, year, position);
-        if calendars::is_refused(answer) {
+// A line for each position up to the first that is refused, and the days of all: in other words than almanac has for it. Twenty lengths are far from wrapping.
+fn write_positions(out: &mut impl Write, calendar: u64, year: i64) -> io::Result<()> {
+    let mut sum = 0u64;
+    for number in 1..=MOST_POSITIONS {
+        let Ok(position) = calendars::position_of(calendar, year, number) else {
             break;
-        }
-        sink = put_position(rt, sink, position, answer, out);
-        sum = std::num::wrapping_add_u64(sum, calendars::days_of(answer));
+        };
+        write_position(out, number, position)?;
+        sum = sum.wrapping_add(position.days());
     }
-    put_all(rt, put_number(rt, sink, sum, out), b" days", out)
+    write!(out, "{sum} days")
 }
 
 // Where the calendar or the year is refused, so is its first position.
-pub(crate) fn answer_year(
-    rt: &impl Print,
-    sink: Sink,
-    calendar: u64,
-    year: i64,
-    out: &mut [u8],
-) -> Sink {
+pub(crate) fn answer_year(out: &mut impl Write, calendar: u64, year: i64) -> io::Result<()> {
     match calendars::position_of(calendar, year, 1) {
-        Position::Refused(why) => put_refusal(rt, sink, why, out),
-        _ => put_positions(rt, sink, calendar, year, out),
+        Ok(_) => write_positions(out, calendar, year),
+        Err(why) => write_refusal(out, why),
     }
 }

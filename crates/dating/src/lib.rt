@@ -4,71 +4,60 @@
 ghost use Rattle.std.specs.Prelude.{◌≤◌};
 ghost use Rattle.counting.specs.Answers.{last_day, last_of};
 ghost use Rattle.calendar_rules.specs.Calendars.{republican};
-ghost use Rattle.months.specs.Parts.{PlaceTo};
-ghost use Rattle.asking.specs.Steps.{Answered, Found};
+ghost use Rattle.calendar_rules.specs.Answers.{date_answer};
+ghost use Rattle.parts.specs.Found.{PlaceTo};
+ghost use Rattle.listing.specs.Kinds.{row_of};
+ghost use Rattle.asking.specs.Steps.{IsDate};
 
+use listing::Calendar;
+use march::{Julian, Macedonian, Syrian};
 use parts::Place;
 
-const LAST_DAY: u64 = 5373484;
-
 // The date of a day in the Republican calendar, which ended.
-fn republican_date(day: u32) -> Place
-    ensures { PlaceTo republican (last_of republican) day result.year result.month result.day }
+fn republican_date(day: u32) -> Option<Place>
+    ensures { PlaceTo republican (last_of republican) day result }
 {
-    if listing::last_day(7) < (day as u64) {
-        return parts::nowhere();
+    if listing::last_day(Calendar::Republican as u64) < u64::from(day) {
+        return None;
     }
-    thirties::coptic_date(2375840, day)
+    thirties::coptic_date(thirties::REPUBLICAN, day)
 }
 
-// The date of a day that is not too late; month 0 where there is none.
-fn place_on(c: u64, day: u32) -> Place
+// The date of a day that is not too late.
+fn place_on(calendar: Calendar, day: u32) -> Option<Place>
     requires { day ≤ last_day }
-    ensures { Answered c (λ K. PlaceTo K (last_of K) day result.year result.month result.day) result.month }
+    ensures { PlaceTo (row_of calendar) (last_of (row_of calendar)) day result }
 {
-    match c {
-        // Egyptian
-        1 => thirties::plain_date(1448638, day),
-        // Armenian
-        2 => thirties::plain_date(1922868, day),
-        // Khwarizmian
-        3 => thirties::plain_date(1952068, day),
-        // Persian
-        4 => thirties::persian_date(day),
-        // Ethiopian
-        5 => thirties::coptic_date(1724221, day),
-        // Coptic
-        6 => thirties::coptic_date(1825030, day),
-        // Republican
-        7 => republican_date(day),
-        // Macedonian
-        8 => march::macedonian_date(day),
-        // Syrian
-        9 => march::syrian_date(day),
-        // Julian
-        10 => march::julian_date(day),
-        // Gregorian
-        11 => march::gregorian_date(day),
-        // Islamic A
-        12 => islamic::date_on(1948439, day),
-        // Islamic B
-        13 => islamic::date_on(1948440, day),
-        // Bahai
-        14 => bahai::date_on(day),
-        // Saka
-        15 => saka::date_on(day),
-        // Hebrew
-        18 => hebrew_days::date_on(day),
-        _ => parts::nowhere(),
+    match calendar {
+        Calendar::Egyptian => thirties::plain_date(thirties::EGYPTIAN, day),
+        Calendar::Armenian => thirties::plain_date(thirties::ARMENIAN, day),
+        Calendar::Khwarizmian => thirties::plain_date(thirties::KHWARIZMIAN, day),
+        Calendar::Persian => thirties::persian_date(day),
+        Calendar::Ethiopian => thirties::coptic_date(thirties::ETHIOPIAN, day),
+        Calendar::Coptic => thirties::coptic_date(thirties::COPTIC, day),
+        Calendar::Republican => republican_date(day),
+        Calendar::Macedonian => march::date_on::<Macedonian>(day),
+        Calendar::Syrian => march::date_on::<Syrian>(day),
+        Calendar::Julian => march::date_on::<Julian>(day),
+        Calendar::Gregorian => march::gregorian_date(day),
+        Calendar::IslamicA => islamic::date_on(islamic::ISLAMIC_A, day),
+        Calendar::IslamicB => islamic::date_on(islamic::ISLAMIC_B, day),
+        Calendar::Bahai => bahai::date_on(day),
+        Calendar::Saka => saka::date_on(day),
+        Calendar::Hebrew => hebrew_days::date_on(day),
     }
 }
 
-// The date of a day; month 0 where it is refused.
-pub fn place(calendar: u64, day: u64) -> Place
-    ensures { Found calendar day result.year result.month result.day }
+// The date of a day; None where it is refused.
+// (With `.ok()?` in place of the match: tried, and the proof didn't close.)
+pub fn place(calendar: u64, day: u64) -> Option<Place>
+    ensures { IsDate (date_answer calendar day) result }
 {
-    if LAST_DAY < day {
-        return parts::nowhere();
+    if listing::LAST_DAY < day {
+        return None;
     }
-    place_on(calendar, day as u32)
+    match Calendar::try_from(calendar) {
+        Ok(calendar) => place_on(calendar, day as u32),
+        Err(_) => None,
+    }
 }

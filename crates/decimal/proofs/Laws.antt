@@ -4,22 +4,21 @@ use mathlib.Core.Logic.{⊎_elim}
 use mathlib.Core.List.{List, [], ◌∷◌, ◌++◌}
 use mathlib.Core.Bool.{Bool, true, false, cond, ◌&&◌}
 use Prim.Native.Nat.{ℕ, zero, suc, ◌+◌, ◌-◌, ◌*◌, ◌/◌, ◌%◌, ◌^◌, ◌≤◌, ◌<◌}
-use native.Mathlib.Nat.{pow-suc, mod-eq_of_lt}
+use native.Mathlib.Nat.{pow-suc}
 use native.Mathlib.Numerals.{add-one}
 use native.Mathlib.Omega.{arith}
 use lib.Dec.{leb, eqb}
 use lib.IntN.{ℤ, pos, negsuc, nat_abs}
 use lib.Signed.{lt_z}
-use lib.Seq.{take_at}
-use lib.ListN.{length, take, drop, get_or, length-append, get_or-append}
-use borrow.Author.Tests.{ltb-true, leb-true, le-leb, lt-leb, lt-ltb, le-ltb, eq-eqb, ne_eqb}
+use lib.Seq.{take-suc}
+use lib.ListN.{length, take, get_or, length-append, get_or-append}
+use borrow.Author.Tests.{ltb-true, leb-true, le-leb, lt-ltb, le-ltb, ne_eqb}
 use Rattle.basics.proofs.Cases.{both}
 use Rattle.basics.proofs.Order.{le_or_lt}
 use Rattle.decimal.specs.declared.Number.{Number}
 use Rattle.decimal.specs.declared.Number.TheVariants.{Sign, Natural, Negative, Other}
-use Rattle.decimal.specs.Decimal.{is_digit, all_digits, value_from, value, capped, behind_minus, number_of, with_digit, with_minus, pushed}
+use Rattle.decimal.specs.Decimal.{is_digit, all_digits, value_from, value, capped, behind_minus, number_of, pushed}
 use Rattle.decimal.specs.Decimal.{digits_in, text, signed_text}
-use Rattle.decimal.specs.Inner.{low_digits, Counts}
 
 -- ---- digits
 
@@ -57,23 +56,6 @@ same false a = refl
 pub stays : (b : ℕ) → pushed Other b ≡ Other
 unfolding pushed
 stays b = rw (same (is_digit b) Other, same (eqb b 45) Other)
-
--- one byte more, by what it is
-pub pushed_minus : (number : Number) (b : ℕ) → b ≡ 45 → pushed number b ≡ with_minus number
-unfolding pushed
-pushed_minus number b e = rw (eq-eqb b 45 e)
-
-pub pushed_digit : (number : Number) (b : ℕ) → 48 ≤ b → b ≤ 57 → pushed number b ≡ with_digit number (b - 48)
-unfolding pushed
-pushed_digit number b l h = rw (ne_eqb b 45 (λ e. omega arith), le-leb 48 b l, le-leb b 57 h)
-
-pub pushed_below : (number : Number) (b : ℕ) → (b ≡ 45 → ⊥) → b < 48 → pushed number b ≡ Other
-unfolding pushed
-pushed_below number b n h = rw (ne_eqb b 45 n, lt-leb 48 b h)
-
-pub pushed_above : (number : Number) (b : ℕ) → 57 < b → pushed number b ≡ Other
-unfolding pushed
-pushed_above number b h = rw (ne_eqb b 45 (λ e. omega arith), le-leb 48 b (omega arith), lt-leb b 57 h)
 
 -- one byte more behind digits, of which `wrap` makes a number
 module _ (wrap : ℕ → Number) where
@@ -127,6 +109,11 @@ more (x ∷ s) b = go (eqb x 45) (behind_more s b) (natural_more (x ∷ s) b)
     go true p q = p
     go false p q = q
 
+-- a byte more of a text
+pub more_at : (s : List ℕ) (k : ℕ) → k < length s → {number : Number} → number ≡ number_of (take k s)
+    → pushed number (get_or s k 0) ≡ number_of (take (k + 1) s)
+more_at s k h e = rw (e, add-one, take-suc s k 0 h) (sym (more (take k s) (get_or s k 0)))
+
 -- what digits are, alone and behind a minus sign
 pub of_digits : (s : List ℕ) → all_digits s ≡ true → 0 < length s → number_of s ≡ Natural (capped (value s))
 unfolding number_of all_digits
@@ -162,13 +149,6 @@ by_digits P none one many (suc most) n =
     (λ l. subst (λ (s : List ℕ). P s (suc most) n) (sym (more_digits most n l)) (many most n l (by_digits P none one many most (n / 10))))
     (λ l. subst (λ (s : List ℕ). P s (suc most) n) (sym (one_digit most n l)) (one most n l))
     (le_or_lt 10 n)
-
--- they are its lowest
-pub are_low : (most n : ℕ) → low_digits (length (digits_in most n)) n ≡ digits_in most n
-unfolding low_digits
-are_low =
-    by_digits (λ s most n. low_digits (length s) n ≡ s) (λ n. refl) (λ most n h. rw (mod-eq_of_lt h))
-    (λ most n h e. rw (length-append, add-one, e))
 
 -- how many there are
 pub length_most : (most n : ℕ) → length (digits_in most n) ≤ most
@@ -217,18 +197,7 @@ no_leading_zero =
         let a = get_or-append (digits_in (suc most) (n / 10)) ((48 + n % 10) ∷ []) 0 0 p in
         omega (arith, e (omega (arith, pow-suc 10 (suc most))) (sym a ∙ z))
 
--- a buffer that begins with a text and goes on as it did
-pub written : (s entry exit : List ℕ) (r : ℕ) → exit ≡ s ++ drop r entry → r ≡ length s
-    → (exit ≡ s ++ drop r entry) × ((r ≡ length s) × (Counts r exit × (take r exit ≡ s)))
-written s entry exit r e l =
-    let f : take r exit ≡ s = ap (take r) e ∙ take_at s (drop r entry) r (sym l) in
-    (e, (l, ((omega (arith, simp length-append at (ap (length {A = ℕ}) e)), l ∙ sym (ap (length {A = ℕ}) f)), f)))
-
 -- the text of a signed number
 pub negative_text : (z : ℤ) → lt_z z (pos 0) ≡ true → signed_text z ≡ 45 ∷ text (nat_abs z)
 negative_text (pos n) h = absurd (omega (arith, ltb-true n 0 h))
 negative_text (negsuc n) h = refl
-
-pub plain_text : (z : ℤ) → lt_z z (pos 0) ≡ false → signed_text z ≡ text (nat_abs z)
-plain_text (pos n) h = refl
-plain_text (negsuc n) h = let z : ◌≡◌ {A = ℕ} 0 1 = cc in absurd (omega arith)

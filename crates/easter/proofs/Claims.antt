@@ -7,9 +7,11 @@ use Rattle.computus.specs.Rule.{easter_answer}
 use Rattle.computus.specs.Feast.{Allowed, Feast}
 use Rattle.computus.proofs.Claims as E
 use Rattle.easter.specs.Paper.{easter_paper}
-use Rattle.easter.specs.declared.EasterDate.{EasterDate}
+use Rattle.std.specs.Prelude.{Result}
+use Rattle.refusals.specs.declared.Refusal.{Refusal}
+use Rattle.easter.specs.declared.MonthDay.{MonthDay}
 
-module _ (r : EasterDate) (calendar : ℕ) (year : ℤ) (promise : easter_paper r ≡ easter_answer calendar year) where
+module _ (r : Result MonthDay Refusal) (calendar : ℕ) (year : ℤ) (promise : easter_paper r ≡ easter_answer calendar year) where
   -- in the allowed years r is a date from 22 March to 25 April, good in its calendar, and a Sunday by the calendar's own date to day
   pub easter_sunday : Allowed calendar year → Feast calendar year (easter_paper r)
   easter_sunday a = rw promise (E.easter_sunday calendar year a)

@@ -2,96 +2,78 @@
 #![tactic(auto)]
 
 ghost use Rattle.std.specs.Prelude.{◌≡◌, ◌≤◌, ◌<◌};
-ghost use Rattle.computus.specs.Rule.{quotient_r, gregorian_m, gregorian_n, ordinary, dated, easter_of, in_years, julian_easter, gregorian_easter, easter_answer};
+ghost use Rattle.computus.specs.Rule.{gregorian_m, gregorian_n, ordinary, dated, easter_of, in_years, julian_easter, gregorian_easter, easter_answer};
 ghost use Rattle.easter.specs.Paper.{date_paper, easter_paper};
 ghost use Rattle.easter.specs.Years.{year_from};
 
 use refusals::Refusal;
 
-#[derive(Clone, Copy)]
+// The two calendars by their numbers: any number is asked, and `easter_answer` answers it.
+const JULIAN: u64 = 10;
+
+const GREGORIAN: u64 = 11;
+
+const LAST_YEAR: u64 = 9999;
+
+#[derive(Clone, Copy, Debug, PartialEq, Eq)]
 pub struct MonthDay {
     pub month: u64,
     pub day: u64,
 }
 
-#[derive(Clone, Copy)]
-pub enum EasterDate {
-    On(MonthDay),
-    Refused(Refusal),
-}
-
 // Easter of a year: in calendar 10 (Julian) from year 1, in calendar 11 (Gregorian) from year 1583, in both to year 9999.
 #[tactic(auto, unfolding(computus::specs::Rule::easter_answer))]
-pub fn easter(calendar: u64, year: i64) -> EasterDate
+pub fn easter(calendar: u64, year: i64) -> Result<MonthDay, Refusal>
     ensures { easter_paper result ≡ easter_answer calendar year }
 {
     match calendar {
-        10 => julian(year),
-        11 => gregorian(year),
-        _ => EasterDate::Refused(Refusal::UnknownCalendar),
+        JULIAN => julian(year),
+        GREGORIAN => gregorian(year),
+        _ => Err(Refusal::UnknownCalendar),
     }
 }
 
 #[tactic(auto, using(crate::proofs::Years::asked_for))]
-fn julian(year: i64) -> EasterDate
+fn julian(year: i64) -> Result<MonthDay, Refusal>
     ensures { easter_paper result ≡ in_years 1 julian_easter year }
 {
-    match year_from(1, year) {
-        Year::In(y) => EasterDate::On(by_constants(15, 6, y)),
-        Year::Out => EasterDate::Refused(Refusal::YearOutOfRange),
-    }
+    let year = year_from(1, year)?;
+    Ok(by_constants(Constants { m: 15, n: 6 }, year))
 }
 
 #[tactic(auto, using(crate::proofs::Years::asked_for))]
-fn gregorian(year: i64) -> EasterDate
+fn gregorian(year: i64) -> Result<MonthDay, Refusal>
     ensures { easter_paper result ≡ in_years 1583 gregorian_easter year }
 {
-    match year_from(1583, year) {
-        Year::In(y) => {
-            let k = gregorian_constants(y);
-            EasterDate::On(by_constants(k.m, k.n, y))
-        }
-        Year::Out => EasterDate::Refused(Refusal::YearOutOfRange),
-    }
-}
-
-// A year that is answered for, or that it is not.
-#[derive(Drop)]
-enum Year {
-    In(u64),
-    Out,
+    let year = year_from(1583, year)?;
+    Ok(by_constants(gregorian_constants(year), year))
 }
 
 // The year, if it lies from `first` to 9999.
-fn year_from(first: u64, year: i64) -> Year
+fn year_from(first: u64, year: i64) -> Result<u64, Refusal>
     ensures { result ≡ year_from first year }
 {
-    if year < 0 {
-        return Year::Out;
+    match u64::try_from(year) {
+        Ok(year) if first <= year && year <= LAST_YEAR => Ok(year),
+        _ => Err(Refusal::YearOutOfRange),
     }
-    let y = year as u64;
-    if y < first {
-        return Year::Out;
-    }
-    if 9999 < y {
-        return Year::Out;
-    }
-    Year::In(y)
 }
 
-// The constants of the Gregorian calendar, which change with the century.
-#[derive(Drop)]
+// The constants of a calendar. The letters here and below are those of the rule (crate computus, specs/Rule.antt).
+#[derive(Clone, Copy)]
 struct Constants {
     m: u64,
     n: u64,
 }
 
+// Those of the Gregorian calendar, which change with the century.
 fn gregorian_constants(year: u64) -> Constants
     requires { year ≤ 9999 }
     ensures { (result.m ≡ gregorian_m year) × (result.n ≡ gregorian_n year) }
 {
     let s = year / 100;
-    let p = (s - quotient_r(s)) / 3;
+    let r = s.saturating_sub(17) / 25;
+    let p = (s - r) / 3;
     let q = s / 4;
     Constants {
         m: (15 + s - p - q) % 30,
@@ -99,18 +81,12 @@ fn gregorian_constants(year: u64) -> Constants
     }
 }
 
-// The quotient of s-17 by 25, 0 where s is below 17.
-fn quotient_r(s: u64) -> u64
-    ensures { result ≡ quotient_r s }
+// The date by the constants of its calendar.
+fn by_constants(constants: Constants, year: u64) -> MonthDay
+    requires { (constants.m < 30) × (constants.n < 7) }
+    ensures { date_paper result ≡ easter_of constants.m constants.n year }
 {
-    if s < 17 { 0 } else { (s - 17) / 25 }
-}
-
-// The date by the constants m and n of its calendar. The letters are those of the rule (crate computus, specs/Rule.antt).
-fn by_constants(m: u64, n: u64, year: u64) -> MonthDay
-    requires { (m < 30) × (n < 7) }
-    ensures { date_paper result ≡ easter_of m n year }
-{
+    let Constants { m, n } = constants;
     let a = year % 19;
     let b = year % 4;
     let c = year % 7;
@@ -124,19 +100,13 @@ fn date(m: u64, d: u64, e: u64) -> MonthDay
     requires { (m < 30) × ((d < 30) × (e < 7)) }
     ensures { date_paper result ≡ dated m d e }
 {
-    if e == 6 {
+    match (d, e) {
         // Exception I.
-        if d == 29 {
-            return MonthDay { month: 4, day: 19 };
-        }
+        (29, 6) => MonthDay { month: 4, day: 19 },
         // Exception II.
-        if d == 28 {
-            if (11 * m + 11) % 30 < 19 {
-                return MonthDay { month: 4, day: 18 };
-            }
-        }
+        (28, 6) if (11 * m + 11) % 30 < 19 => MonthDay { month: 4, day: 18 },
+        _ => ordinary_date(d, e),
     }
-    ordinary_date(d, e)
 }
 
 // The date where no exception applies.

@@ -1,94 +1,102 @@
-// A request line read byte by byte: its word, and the numbers after it, which go to a lent buffer.
-ghost use Rattle.std.specs.Prelude.{◌≤◌};
+// A request line read byte by byte: its word, and the numbers after it.
+ghost use Rattle.fit_lines.specs.Begun.{begun};
 
-// The words of requests. A word is its bytes in base 256 below a leading 1, so that different words are different numbers.
-pub(crate) const FIT: u64 = 0x01_66_69_74;
+use crate::answering;
+use arrayvec::ArrayVec;
+use decimal::Number;
+use request_lines::RequestLine;
+use std::io;
+use std::io::Write;
 
-pub(crate) const UNFOLD: u64 = 0x01_75_6e_66_6f_6c_64;
+// No request has a word of more.
+const MOST_LETTERS: usize = 6;
 
-const NO_BYTES: u64 = 1;
-
-// The least word of six bytes. No request has a word of more.
-const SIX_BYTES: u64 = 0x01_00_00_00_00_00_00;
-
-// A tenth of the largest number. From here on another digit may be too much.
-const TENTH: u64 = 1844674407370955161;
+// One more than a code may have, so that a longer one shows.
+const MOST_NUMBERS: usize = 513;
 
 // How far a line is read.
 #[derive(Clone, Copy)]
-pub(crate) enum Scan {
-    // In the word: the word so far.
-    Word(u64),
-    // After a space: the word, and how many numbers are kept.
-    Space(u64, usize),
-    // In a number: the same, and the number so far.
-    Number(u64, usize, u64),
+enum Place {
+    Start,
+    Word,
+    Numbers,
     // The line is no request.
     Wrong,
 }
 
-pub(crate) fn start() -> Scan {
-    Scan::Word(NO_BYTES)
+#[derive(Drop)]
+pub(crate) struct Request {
+    place: Place,
+    word: ArrayVec<u8, MOST_LETTERS>,
+    numbers: ArrayVec<u64, MOST_NUMBERS>,
+    // The bytes since a space.
+    last: Number,
 }
 
-pub(crate) fn is_start(scan: Scan) -> bool {
-    match scan {
-        Scan::Word(word) => word == NO_BYTES,
-        _ => false,
-    }
-}
-
-// After a space, or at the end of the line. A number that ends is kept where there is room, and passed over where there is none.
-pub(crate) fn after_space(scan: Scan, numbers: &mut [u64]) -> Scan {
-    match scan {
-        Scan::Word(word) => Scan::Space(word, 0),
-        Scan::Number(word, count, value) => {
-            if count < numbers.len() {
-                numbers[count] = value;
-                Scan::Space(word, count + 1)
-            } else {
-                Scan::Space(word, count)
-            }
+impl Request {
+    pub(crate) fn new() -> Request {
+        Request {
+            place: Place::Start,
+            word: ArrayVec::new(),
+            numbers: ArrayVec::new(),
+            last: Number::Empty,
         }
-        _ => scan,
     }
-}
 
-// A number too large for 64 bits is taken as the largest.
-fn after_digit(scan: Scan, digit: u8) -> Scan
-    requires { digit ≤ 9 }
-{
-    match scan {
-        Scan::Space(word, count) => Scan::Number(word, count, digit as u64),
-        Scan::Number(word, count, value) => {
-            if value < TENTH {
-                Scan::Number(word, count, value * 10 + digit as u64)
-            } else {
-                Scan::Number(word, count, u64::MAX)
-            }
+    fn take_byte(&mut self, byte: u8) {
+        match self.place {
+            Place::Start | Place::Word => self.take_letter(byte),
+            Place::Numbers if byte == b' ' => self.end_number(),
+            Place::Numbers => self.last.push(byte),
+            Place::Wrong => {}
         }
-        _ => Scan::Wrong,
     }
-}
 
-fn after_letter(scan: Scan, byte: u8) -> Scan {
-    match scan {
-        Scan::Word(word) => {
-            if word < SIX_BYTES {
-                Scan::Word(word * 256 + byte as u64)
-            } else {
-                Scan::Wrong
+    fn take_letter(&mut self, byte: u8) {
+        self.place = if byte == b' ' {
+            Place::Numbers
+        } else if self.word.try_push(byte).is_ok() {
+            Place::Word
+        } else {
+            Place::Wrong
+        };
+    }
+
+    // A number is kept where there is room, and passed over where there is none.
+    fn end_number(&mut self) {
+        match self.last {
+            Number::Natural(n) => {
+                let _ = self.numbers.try_push(n);
             }
+            Number::Empty => {}
+            _ => self.place = Place::Wrong,
         }
-        _ => Scan::Wrong,
+        self.last = Number::Empty;
     }
 }
 
-// One more byte, which is no newline.
-pub(crate) fn step(scan: Scan, byte: u8, numbers: &mut [u64]) -> Scan {
-    match byte {
-        b' ' => after_space(scan, numbers),
-        b'0'..=b'9' => after_digit(scan, byte - b'0'),
-        _ => after_letter(scan, byte),
+impl RequestLine for Request {
+    ghost begun = { λ request. begun request.place };
+
+    fn is_begun(&self) -> bool {
+        !matches!(self.place, Place::Start)
+    }
+
+    fn take(&mut self, bytes: &[u8]) {
+        for byte in bytes {
+            self.take_byte(*byte);
+        }
+    }
+
+    fn answer(&mut self, out: &mut impl Write) -> io::Result<()> {
+        self.end_number();
+        match self.place {
+            Place::Wrong => answering::no_request(out)?,
+            _ => answering::answer(out, self.word.as_slice(), self.numbers.as_slice())?,
+        }
+        self.word.clear();
+        self.numbers.clear();
+        self.place = Place::Start;
+        writeln!(out)
     }
 }

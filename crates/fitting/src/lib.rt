@@ -1,47 +1,16 @@
 // Fitting: the digital straight line with the least denominator that generates a code of month lengths.
 #![tactic(auto)]
 
-ghost use Rattle.std.specs.Prelude.{◌≡◌, ◌+◌, ◌-◌, ◌≤◌, ◌<◌, min, max};
+ghost use Rattle.std.specs.Prelude.{◌≡◌};
 ghost use Rattle.lines.specs.Fit.{Within, fit_of};
 ghost use Rattle.fitting.specs.Paper.{fit_paper};
 
 use codes::Line;
 use refusals::Refusal;
 
-// What fitting answers.
-#[derive(Drop)]
-pub enum Fitted {
-    By(Line),
-    Refused(Refusal),
-}
-
-// The offsets from `low` up that also reach `level`.
-fn raised(low: u64, level: u64, reach: u64) -> u64
-    requires { low + reach < 1000000000 }
-    ensures { result ≡ max low (level - reach) }
-{
-    if reach + low < level {
-        level - reach
-    } else {
-        low
-    }
-}
-
-// The offsets up to `high` that also stay within `top`.
-fn lowered(high: u64, top: u64, reach: u64) -> u64
-    requires { (high + reach < 1000000000) × (reach ≤ top) }
-    ensures { result ≡ min high (top - reach) }
-{
-    if top < reach + high {
-        top - reach
-    } else {
-        high
-    }
-}
-
 // Tries the denominators 1, 2, .. with the band test. A denominator b leaves one slope, a / b with a the sum of the first b lengths; each mark k then
 // bounds the offset by b y - a k below and by b - 1 more above, where y is the sum of the first k lengths.
-fn least_denominator(code: &[u64]) -> Fitted
+fn least_denominator(code: &[u64]) -> Result<Line, Refusal>
     requires { Within code.now }
     ensures { fit_paper result ≡ fit_of code.now }
 {
@@ -49,9 +18,11 @@ fn least_denominator(code: &[u64]) -> Fitted
     let mut tried: usize = 0;
     let mut a: u64 = 0;
     let mut low: u64 = 0;
-    let found = 'denominators: loop {
+    // The labelled loop and the loop in it are a form asked for by name (docs/DECISIONS.md): the outer yields a value, which no `for` does, and the inner is left by
+    // `break` at the first mark outside the band, where a `for` would have to go on with the outer one.
+    let denominator = 'denominators: loop {
         if tried == n {
-            break 'denominators 0;
+            break 'denominators None;
         }
         a += code[tried];
         tried += 1;
@@ -63,7 +34,7 @@ fn least_denominator(code: &[u64]) -> Fitted
         let mut k: usize = 0;
         loop {
             if k == n {
-                break 'denominators b;
+                break 'denominators Some(b);
             }
             y += code[k];
             reach += a;
@@ -76,27 +47,23 @@ fn least_denominator(code: &[u64]) -> Fitted
             if reach + high < level {
                 break;
             }
-            low = raised(low, level, reach);
-            high = lowered(high, top, reach);
+            low = low.max(level.saturating_sub(reach));
+            high = high.min(top - reach);
         }
     };
-    if found == 0 {
-        return Fitted::Refused(Refusal::NoLine);
-    }
-    Fitted::By(Line {
-        a,
-        b: found,
-        r: low,
-    })
+    let Some(b) = denominator else {
+        return Err(Refusal::NoLine);
+    };
+    Ok(Line { a, b, r: low })
 }
 
 // The line with the least denominator that generates the code, or why there is none.
-pub fn fit(code: &[u64]) -> Fitted
+pub fn fit(code: &[u64]) -> Result<Line, Refusal>
     ensures { fit_paper result ≡ fit_of code.now }
 {
     if codes::within_limits(code) {
         least_denominator(code)
     } else {
-        Fitted::Refused(Refusal::CodeOutOfLimits)
+        Err(Refusal::CodeOutOfLimits)
     }
 }

@@ -1,15 +1,16 @@
 -- A frame's fields and its digits as one number.
-use mathlib.Core.Path.{◌≡◌, sym, ap, ◌∙◌}
+use mathlib.Core.Path.{◌≡◌, refl, sym, ap, ◌∙◌}
 use mathlib.Core.List.{List, ◌++◌}
-use mathlib.Core.Bool.{true, false}
+use mathlib.Core.Bool.{Bool, true, false, cond}
 use Prim.Native.Nat.{ℕ, ◌+◌, ◌*◌, ◌/◌, ◌%◌, ◌^◌, ◌<◌}
 use native.Mathlib.Nat.{div-one, div-add-mod', mod-mod, div-div-eq-div-mul}
 use native.Mathlib.Omega.{arith}
+use Rattle.std.specs.Prelude.{Some, None, option_map}
 use Rattle.hex_digits.specs.Digits.{sixteen_digits, number_in, written_in}
+use Rattle.hex_digits.specs.Read.{digits_of}
 use Rattle.hex_digits.proofs.Claims.{sixteen_parts}
 use Rattle.hex_digits.proofs.Laws.{part, written_join, written_low}
 use Rattle.frames.specs.declared.Frame.{Frame}
-use Rattle.frames.specs.declared.Reading.TheVariants.{Fields, Malformed}
 use Rattle.frames.specs.Frame.{fields_of, reading_of, frame_of}
 use Rattle.frames.specs.Inner.{parts_of, packed}
 
@@ -91,10 +92,14 @@ frame_written f =
 
 -- ---- what reading answers
 
-pub reads_frame : (line : List ℕ) → sixteen_digits line ≡ true → reading_of line ≡ Fields (fields_of line)
+pub reads : (line : List ℕ) → option_map parts_of (digits_of line) ≡ reading_of line
+unfolding digits_of reading_of
+reads line = go (sixteen_digits line) refl
+  where
+    go : (c : Bool) → sixteen_digits line ≡ c → option_map parts_of (cond c (Some (number_in line)) None) ≡ cond c (Some (fields_of line)) None
+    go true h = ap Some (sym (fields_parts line h))
+    go false h = refl
+
+pub reads_frame : (line : List ℕ) → sixteen_digits line ≡ true → reading_of line ≡ Some (fields_of line)
 unfolding reading_of
 reads_frame line h = rw h
-
-pub reads_other : (line : List ℕ) → sixteen_digits line ≡ false → reading_of line ≡ Malformed
-unfolding reading_of
-reads_other line h = rw h

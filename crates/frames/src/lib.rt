@@ -6,10 +6,8 @@ ghost use Rattle.std.specs.Prelude.{◌≡◌};
 ghost use Rattle.frames.specs.Frame.{reading_of, frame_of};
 ghost use Rattle.frames.specs.Inner.{parts_of, packed};
 
-use hex_digits::Digits;
-
 // The numbers that a frame carries. The year is the year plus 4,712.
-#[derive(Drop)]
+#[derive(Clone, Copy, Debug, PartialEq, Eq)]
 pub struct Frame {
     pub calendar: u64,
     pub year: u64,
@@ -18,14 +16,7 @@ pub struct Frame {
     pub number: u64,
 }
 
-// What a line is: a frame, or something else.
-#[derive(Drop)]
-pub enum Reading {
-    Fields(Frame),
-    Malformed,
-}
-
-// The fields of a frame whose digits write n.
+// The fields of a frame whose digits write n. A private step, and no `From`: a caller would read a frame from any number, not from a line.
 fn parts(n: u64) -> Frame
     ensures { result ≡ parts_of n }
 {
@@ -39,29 +30,26 @@ fn parts(n: u64) -> Frame
 }
 
 // The fields of a line that is exactly 16 digits.
-pub fn read(line: &[u8]) -> Reading
+pub fn read(line: &[u8]) -> Option<Frame>
     ensures { result ≡ reading_of line.now }
 {
-    match hex_digits::read(line) {
-        Digits::Number(n) => Reading::Fields(parts(n)),
-        Digits::Malformed => Reading::Malformed,
-    }
+    hex_digits::read(line).map(parts)
 }
 
-// The number that a frame's digits write. Of a field that is too wide only the lowest digits count.
-fn pack(f: Frame) -> u64
-    ensures { result ≡ packed f }
+// The number that a frame's digits write. No `From`: of a field that is too wide only the lowest digits count.
+fn pack(frame: Frame) -> u64
+    ensures { result ≡ packed frame }
 {
-    f.calendar % 0x100 * 0x100_0000_0000_0000
-        + f.year % 0x1_0000 * 0x100_0000_0000
-        + f.month % 0x100 * 0x1_0000_0000
-        + f.day % 0x100 * 0x100_0000
-        + f.number % 0x100_0000
+    frame.calendar % 0x100 * 0x100_0000_0000_0000
+        + frame.year % 0x1_0000 * 0x100_0000_0000
+        + frame.month % 0x100 * 0x1_0000_0000
+        + frame.day % 0x100 * 0x100_0000
+        + frame.number % 0x100_0000
 }
 
 // The frame of some fields: of each its lowest digits.
-pub fn write(f: Frame) -> [u8; 16]
-    ensures { result ≡ frame_of f }
+pub fn write(frame: Frame) -> [u8; 16]
+    ensures { result ≡ frame_of frame }
 {
-    hex_digits::write(pack(f))
+    hex_digits::write(pack(frame))
 }

@@ -3,14 +3,23 @@
 
 ghost use Rattle.std.specs.Prelude.{cond, ◌≡◌, ◌+◌, ◌≤◌};
 ghost use Rattle.hebrew.specs.Hebrew.{leap};
-ghost use Rattle.months.specs.Hebrew.{HebrewYear, months_to, gate_days, next_days};
+ghost use Rattle.months.specs.Hebrew.{HebrewYear, months_to, past_gates};
 
-// A year: its first day, 1 where it is leap, and its kind.
-#[derive(Drop)]
+// The first day of year 1.
+pub const FIRST_DAY: u64 = 347998;
+
+// A year: its number, its first day, 1 where it is leap, and its kind. Whether it is leap is a number that enters products, where a bool would be turned into
+// one; the kind is an index of tables.
+#[derive(Clone, Copy, Debug, PartialEq, Eq)]
 pub struct Year {
+    pub number: u64,
     pub start: u64,
     pub leap: u64,
     pub kind: u64,
+    pub ghost is_year: { HebrewYear number start leap kind },
+    pub ghost leap_small: { leap ≤ 1 },
+    pub ghost number_small: { number ≤ 65537 },
+    pub ghost start_small: { start ≤ 8589934592 },
 }
 
 // 13 more than the months before year y.
@@ -29,52 +38,40 @@ fn leap_of(y: u64) -> u64
     months_to(y + 1) - months_to(y) - 12
 }
 
-// The days from Monday to the year's first day.
-fn gate_days(rest: u64, a: u64, b: u64) -> u64
-    ensures { (result ≡ gate_days rest a b) × (result ≤ 7) }
+// The days by which a first day is past the one before all gates: one where the new moon is past the gate a, and two for each of the gates b, c and d.
+fn gate_days(moon: u64, a: u64, b: u64, c: u64, d: u64) -> u64
+    ensures { (result ≡ past_gates moon a b c d) × (result ≤ 7) }
 {
-    parts::pick(a <= rest, 1, 0)
-        + 2 * (parts::pick(b <= rest, 1, 0)
-            + parts::pick(103680 <= rest, 1, 0)
-            + parts::pick(155520 <= rest, 1, 0))
+    parts::pick(a <= moon, 1, 0)
+        + 2 * (parts::pick(b <= moon, 1, 0)
+            + parts::pick(c <= moon, 1, 0)
+            + parts::pick(d <= moon, 1, 0))
 }
 
-// The days from Saturday to the next year's first day.
-fn next_days(far: u64, a: u64, b: u64) -> u64
-    ensures { (result ≡ next_days far a b) × (result ≤ 7) }
+// The year that is i years after the first. Both first days come from one new moon: the next is 4 or 5 days and some hours further in the week, past Thursday.
+pub fn year_after(i: u16) -> Year
+    ensures { result.number ≡ i + 1 }
 {
-    parts::pick(a <= far, 1, 0)
-        + 2 * (parts::pick(155520 <= far, 1, 0)
-            + parts::pick(b <= far, 1, 0)
-            + parts::pick(285120 <= far, 1, 0))
-}
-
-// Both first days from one new moon. The next is 4 or 5 days and some hours further in the week, past Thursday.
-fn year_at(y: u64) -> Year
-    requires { (1 ≤ y) × (y ≤ 65537) }
-    ensures { HebrewYear y result.start result.leap result.kind × (result.leap ≤ 1) × (result.start ≤ 8589934592) }
-{
-    let before = leap_of(y - 1);
-    let now = leap_of(y);
-    let after = leap_of(y + 1);
-    let m = months_to(y) * 765433 - 9938545;
+    let number = u64::from(i) + 1;
+    let before = leap_of(number - 1);
+    let now = leap_of(number);
+    let after = leap_of(number + 1);
+    let m = months_to(number) * 765433 - 9938545;
     let rest = m % 181440;
-    let here = gate_days(rest, 25920 - 2651 * before, 42324 + 9516 * now);
-    let there = next_days(
+    let monday = 25920 - 2651 * before;
+    let tuesday = 42324 + 9516 * now;
+    let here = gate_days(rest, monday, tuesday, 103680, 155520);
+    let there = gate_days(
         rest + 113196 + 39673 * now,
         207360 - 2651 * now,
+        155520,
         223764 + 9516 * after,
+        285120,
     );
     Year {
-        start: 347998 + 7 * (m / 181440) + here,
+        number,
+        start: FIRST_DAY + 7 * (m / 181440) + here,
         leap: now,
         kind: there + now + 2 - here,
     }
-}
-
-// The year that is i years after the first.
-pub fn year_after(i: u16) -> Year
-    ensures { HebrewYear (i + 1) result.start result.leap result.kind × (result.leap ≤ 1) × (result.start ≤ 8589934592) }
-{
-    year_at((i as u64) + 1)
 }

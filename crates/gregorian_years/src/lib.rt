@@ -6,7 +6,7 @@ ghost use Rattle.std.specs.Prelude.{cond, ◌≡◌, ◌+◌, ◌≤◌};
 ghost use Rattle.months.specs.Leap.{gregorian_long, gregorian_start, GregorianDay};
 
 // A day: its year, and the days of that year before it.
-#[derive(Drop)]
+#[derive(Clone, Copy, Debug, PartialEq, Eq)]
 pub struct YearDay {
     pub year: u32,
     pub rest: u64,
@@ -16,8 +16,8 @@ pub struct YearDay {
 pub fn extra_days(z: u32) -> u64
     ensures { (result ≡ cond (gregorian_long z) 1 0) × (result ≤ 1) }
 {
-    let y = z as u64;
-    let century = (z / 100) as u64;
+    let y = u64::from(z);
+    let century = u64::from(z / 100);
     if y == 100 * century + 99 {
         return (century % 4 + 1) / 4;
     }
@@ -28,15 +28,15 @@ pub fn extra_days(z: u32) -> u64
 pub fn year_start(z: u32) -> u64
     ensures { result ≡ gregorian_start z }
 {
-    let century = (z / 100) as u64;
-    1461 * (z as u64) / 4 - century + century / 4
+    let century = u64::from(z / 100);
+    1461 * u64::from(z) / 4 - century + century / 4
 }
 
 // The year of the day that is so many days after another: the century first, and then the year as if every fourth were leap.
 pub fn year_of(day: u32, after: u32) -> YearDay
     ensures { GregorianDay (day + after) result.year result.rest }
 {
-    let n = (day as u64) + (after as u64);
+    let n = u64::from(day) + u64::from(after);
     let century = (4 * n + 3) / 146097;
     let t = 4 * (n + century - century / 4) + 3;
     YearDay {

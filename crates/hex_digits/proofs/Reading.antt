@@ -1,15 +1,20 @@
 -- What the loop of `read` keeps: whether the bytes passed are digits, and if so the number that they write.
-use mathlib.Core.Path.{◌≡◌, sym, ap, ◌∙◌}
+use mathlib.Core.Path.{◌≡◌, refl, sym, ap, ◌∙◌}
 use mathlib.Core.List.{List}
-use mathlib.Core.Bool.{Bool, true, ◌&&◌}
+use mathlib.Core.Bool.{Bool, true, false, cond, ◌&&◌}
 use Prim.Native.Nat.{ℕ, ◌+◌, ◌*◌, ◌%◌, ◌^◌, ◌≤◌, ◌<◌}
 use native.Mathlib.Omega.{arith}
 use native.Mathlib.Numerals.{add-one}
 use native.Mathlib.Nat.{pow-suc, pow-le-pow_right}
 use lib.Dec.{eqb}
 use lib.ListN.{length, take, get_or}
+use lib.Seq.{take_all}
+use borrow.Author.Tests.{eq-eqb}
 use Rattle.basics.proofs.Cases.{both}
-use Rattle.hex_digits.specs.Digits.{is_digit, all_digits, number_in, hex_byte}
+use Rattle.std.specs.Prelude.{Some, None}
+use Rattle.std.specs.Bool.{then_some}
+use Rattle.hex_digits.specs.Digits.{is_digit, all_digits, sixteen_digits, number_in, hex_byte}
+use Rattle.hex_digits.specs.Read.{digits_of}
 use Rattle.hex_digits.specs.Inner.{guess}
 use Rattle.hex_digits.proofs.Laws.{number_suc, all_suc, guessed}
 
@@ -40,3 +45,14 @@ next {line} {n} {n'} {good} {good'} {k} {k'} {d} {w} h p l small e f en eg ek =
 -- its number fits
 pub fits : {line : List ℕ} {n : ℕ} {good : Bool} {k : ℕ} (d : ℕ) → Passed line n good k → k < 16 → d < 16 → n * 16 + d < 2 ^ 64
 fits {line} {n} {good} {k} d p l m = omega (arith, p.small, pow-le-pow_right {n = 16} (omega arith) {i = k} {j = 15} (omega arith))
+
+-- all 16 bytes: the number, if all are digits
+pub whole : {line : List ℕ} {n : ℕ} {good : Bool} {k : ℕ} → Passed line n good k → length line ≡ 16 → length line ≤ k → then_some good n ≡ digits_of line
+unfolding digits_of sixteen_digits
+whole {line} {n} {good} {k} p h l =
+    let w = take_all k line l in
+    rw (eq-eqb (length line) 16 h, sym (p.digits ∙ ap all_digits w)) (go good (λ e. p.value e ∙ ap number_in w))
+  where
+    go : (b : Bool) → (b ≡ true → n ≡ number_in line) → then_some b n ≡ cond b (Some (number_in line)) None
+    go true v = ap Some (v refl)
+    go false v = refl

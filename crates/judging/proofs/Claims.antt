@@ -7,14 +7,14 @@ use Prim.Native.Nat.{ℕ, ◌*◌, ◌<◌}
 use native.Mathlib.Omega.{arith}
 use lib.ListN.{length, take, drop, get_or}
 use lib.Seq.{take_at}
-use Rattle.hex_digits.specs.Digits.{written_in}
+use Rattle.std.specs.Prelude.{unwrap_or}
 use Rattle.streaming.specs.Lines.{newline, lines_of, replies}
 use Rattle.streaming.specs.Pieces.{answers, ending, in_pieces, joined}
 use Rattle.streaming.proofs.Claims.{w_bytes_a_line, reply_of_each_line, cut_at_a_newline, in_any_pieces}
 use Rattle.verdicts.specs.Verdict.{verdict_of}
 use Rattle.carrying.specs.declared.Unfinished.{Unfinished}
 use Rattle.carrying.specs.Kept.{most, kept_of}
-use Rattle.replying.specs.Sheet.{two_digits, reply, judging, sheet_of}
+use Rattle.replying.specs.Sheet.{reply, judging, sheet_of}
 use Rattle.replying.proofs.Claims.{three_bytes, reads}
 use Rattle.judging.specs.declared.Progress.{Progress}
 use Rattle.judging.specs.Piece.{Judged, ending_of}
@@ -40,12 +40,12 @@ split s t = cut_at_a_newline judging tt s t
 -- ---- the code: a run of calls, one for each piece, and then the end of the input. What it writes is what each call puts into its buffer.
 
 pub data Run : Unfinished → List (List ℕ) → List ℕ → Type 0 where
-  finish : {u : Unfinished} → Run u [] (take (ending_of (kept_of u)).count (ending_of (kept_of u)).bytes)
+  finish : {u : Unfinished} → Run u [] (unwrap_or (ending_of (kept_of u)) [])
   judge : {u : Unfinished} {piece out out' : List ℕ} {r : Progress} {rest : List (List ℕ)} {written : List ℕ} → Judged u piece out r out'
       → Run r.state rest written → Run u (piece ∷ rest) (take r.written out' ++ written)
 
-ends : (line : List ℕ) → take (ending_of line).count (ending_of line).bytes ≡ ending judging tt line
-unfolding ending_of ending two_digits written_in
+ends : (line : List ℕ) → unwrap_or (ending_of line) [] ≡ ending judging tt line
+unfolding ending_of ending
 ends [] = refl
 ends (b ∷ line) = refl
 

@@ -5,6 +5,7 @@ use Prim.Native.Nat.{ℕ, ◌+◌, ◌-◌, ◌*◌, ◌/◌, ◌≤◌, ◌<◌
 use native.Mathlib.Omega.{arith}
 use lib.ListN.{length, take, drop, get_or, length-append, length-drop, length-take}
 use lib.Seq.{drop-cons, take-suc, take_all, get_or-drop}
+use Rattle.std.specs.Prelude.{Some}
 use Rattle.hex_digits.specs.Digits.{digit_of}
 use Rattle.hex_digits.proofs.Claims.{sixteen_parts}
 use Rattle.hex_digits.proofs.Laws.{plain_digits}
@@ -18,14 +19,12 @@ use Rattle.carrying.specs.declared.Unfinished.{Unfinished}
 use Rattle.carrying.specs.declared.Part.{Part}
 use Rattle.carrying.specs.Kept.{most, kept_of, GoneOn}
 use Rattle.carrying.proofs.Claims.{end_within, end_at_newline, no_newline_before}
-use Rattle.replying.specs.declared.Line.TheVariants.{Frame}
 use Rattle.replying.specs.Sheet.{two_digits, judging}
 use Rattle.replying.specs.First.{first_line}
 use Rattle.replying.proofs.Claims.{three_bytes, reads, Begins, frame_first}
-use Rattle.judging.specs.declared.Ending.{Ending}
 use Rattle.judging.specs.declared.Progress.{Progress}
-use Rattle.judging.specs.Piece.{taken, Judged, ending_of}
-use Rattle.judging.specs.Inner.{Put, TakesFrom}
+use Rattle.judging.specs.Piece.{taken, Judged}
+use Rattle.judging.specs.Inner.{Put}
 
 -- no byte has more than three written
 few_written : {input : List ℕ} {i j : ℕ} {kept kept' out out' : List ℕ} {at at' : ℕ} → WorkedFrom judging most input i j tt kept out at tt kept' out' at'
@@ -54,7 +53,7 @@ rest : (input : List ℕ) (from : ℕ) → take (length input - from) (drop from
 rest input from = take_all (length input - from) (drop from input) (omega (arith, length-drop from input))
 
 -- a frame that stands at a place
-pub frame_at : (input : List ℕ) (q from v : ℕ) → Frame v ≡ first_line (take (length input - q) (drop q input)) → q ≡ from → Begins (drop from input) v
+pub frame_at : (input : List ℕ) (q from v : ℕ) → Some v ≡ first_line (take (length input - q) (drop q input)) → q ≡ from → Begins (drop from input) v
 frame_at input q from v g e = (frame_first (drop from input) v).0 (rw (rest input from) at (rw e at g))
 
 -- its line
@@ -77,7 +76,7 @@ module _ (u : Unfinished) (input : List ℕ) (from end : ℕ) (r : Part) (g : Go
     gone = rw (rest input from) at g
 
     -- the bytes of a line up to its newline, or to the end of the input
-    pub line_taken : (out : List ℕ) (at : ℕ) → at ≤ length out → from ≤ length input → TakesFrom u input from end out at r.line out at
+    pub line_taken : (out : List ℕ) (at : ℕ) → at ≤ length out → from ≤ length input → WorkedFrom judging most input from end tt (kept_of u) out at tt (kept_of r.line) out at
     line_taken out at a h =
         let n : end - from ≡ r.end = omega arith in
         record {
@@ -105,11 +104,11 @@ newline_taken {kept} {input} {out} {out'} {end} {next} {at} {at'} {v} h e w o ep
     }
 
 -- all of an input
-pub judged : {u u' : Unfinished} {input out out' : List ℕ} {i at consumed written : ℕ} → TakesFrom u input 0 i out 0 u' out' at → i ≡ length input
-    → consumed ≡ i → written ≡ at
+pub judged : {u u' : Unfinished} {input out out' : List ℕ} {i at consumed written : ℕ}
+    → WorkedFrom judging most input 0 i tt (kept_of u) out 0 tt (kept_of u') out' at → i ≡ length input → consumed ≡ i → written ≡ at
     → Judged u input out (record { state = u'; consumed = consumed; written = written }) out'
 judged {u} {u'} {input} {out} {out'} {i} {at} {consumed} {written} w e c n =
-    let v = whole_input (subst (λ (k : ℕ). TakesFrom u input 0 k out 0 u' out' at) e w) in
+    let v = whole_input (subst (λ (k : ℕ). WorkedFrom judging most input 0 k tt (kept_of u) out 0 tt (kept_of u') out' at) e w) in
     record { consumed = c ∙ e; written = omega (arith, v.count); buffer = rw n v.buffer; state = v.left }
 
 -- ---- for a program that writes what was judged: it lies within the buffer
@@ -121,11 +120,3 @@ written_within {u} {input} {out} {r} {out'} j =
 pub consumed_within : (piece : List ℕ) {u : Unfinished} {out : List ℕ} {r : Progress} {out' : List ℕ} → Judged u (taken piece out) out r out'
     → r.consumed ≤ length piece
 consumed_within piece {u} {out} j = omega (arith, j.consumed, length-take (min (length piece) (length out / 3)) piece)
-
-ending_within : (line : List ℕ) → (ending_of line).count ≤ length (ending_of line).bytes
-unfolding ending_of
-ending_within [] = omega arith
-ending_within (b ∷ line) = omega (arith, three_bytes (verdict_of (b ∷ line)))
-
-pub finished_within : (line : List ℕ) (r : Ending) → r ≡ ending_of line → r.count ≤ length r.bytes
-finished_within line r e = subst (λ (x : Ending). x.count ≤ length x.bytes) (sym e) (ending_within line)

@@ -1,11 +1,10 @@
 -- What one call does with a piece of an input, and what the end of the input adds.
-use Rattle.std.specs.Prelude.{◌≡◌, List, [], ◌∷◌, ◌++◌, ℕ, ◌/◌, min, length, take, drop}
+use Rattle.std.specs.Prelude.{◌≡◌, List, Option, Some, None, [], ◌∷◌, ◌++◌, ℕ, ◌/◌, min, length, take, drop}
 use Rattle.streaming.specs.Pieces.{after, answers}
 use Rattle.carrying.specs.declared.Unfinished.{Unfinished}
 use Rattle.carrying.specs.Kept.{most, kept_of}
 use Rattle.replying.specs.Sheet.{reply, judging}
 use Rattle.judging.specs.declared.Progress.{Progress}
-use Rattle.judging.specs.declared.Ending.{Ending}
 
 -- What one call takes of a piece: all of it, if the output buffer has room for an answer to each byte.
 abbrev pub taken : List ℕ → List ℕ → List ℕ
@@ -20,6 +19,6 @@ pub record Judged (u : Unfinished) (input out : List ℕ) (r : Progress) (out' :
   pub state : kept_of r.state ≡ take most (after (kept_of u) input)
 
 -- what the end of the input adds: nothing where no line is unfinished
-unfoldable pub ending_of : List ℕ → Ending
-ending_of [] = record { bytes = 0 ∷ 0 ∷ 0 ∷ []; count = 0 }
-ending_of (b ∷ line) = record { bytes = reply (b ∷ line); count = 3 }
+unfoldable pub ending_of : List ℕ → Option (List ℕ)
+ending_of [] = None
+ending_of (b ∷ line) = Some (reply (b ∷ line))

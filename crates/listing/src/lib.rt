@@ -1,34 +1,109 @@
 // Which numbers are a calendar's, which years it may have, its strip and its last day: what the questions to the calendars try alike.
+// A calendar is asked for by its number: any number is asked, and the clauses (`OfListed c`, `none_number c`) answer it.
 #![tactic(auto)]
 
 ghost use Rattle.std.specs.Prelude.{◌≡◌, ◌≤◌};
+ghost use Rattle.refusals.specs.Number.{number_of};
 ghost use Rattle.counting.specs.Answers.{last_day, last_of};
-ghost use Rattle.asking.specs.Steps.{listed, OfListed, strip_or0, packed_none, year_inside, years_since};
+ghost use Rattle.listing.specs.Kinds.{Reads};
+ghost use Rattle.asking.specs.Steps.{listed, OfListed, given, none_number, year_inside, years_since};
 
+pub use parts::LAST_DAY;
+use refusals::Refusal;
+
+// The years that some calendar may have.
 const FIRST_YEAR: i64 = -4712;
 
-const LAST_YEAR: i64 = 20000;
+pub const LAST_YEAR: i64 = 20000;
 
-const LAST_DAY: u64 = 5373484;
+// The years from -4712 to year 1.
+pub const YEARS_BEFORE_1: u16 = 4713;
 
+// The last day of the Republican calendar.
 const REPUBLICAN_END: u64 = 2380687;
 
-// Whether a number is a calendar's. The bits are those of the numbers 1 to 15 and 18.
+// The calendars of the table.
+#[derive(Clone, Copy, Debug, PartialEq, Eq)]
+pub enum Calendar {
+    Egyptian = 1,
+    Armenian = 2,
+    Khwarizmian = 3,
+    Persian = 4,
+    Ethiopian = 5,
+    Coptic = 6,
+    Republican = 7,
+    Macedonian = 8,
+    Syrian = 9,
+    Julian = 10,
+    Gregorian = 11,
+    IslamicA = 12,
+    IslamicB = 13,
+    Bahai = 14,
+    Saka = 15,
+    Hebrew = 18,
+}
+
+// All of them, in the order of their numbers.
+pub const CALENDARS: [Calendar; 16] = [
+    Calendar::Egyptian,
+    Calendar::Armenian,
+    Calendar::Khwarizmian,
+    Calendar::Persian,
+    Calendar::Ethiopian,
+    Calendar::Coptic,
+    Calendar::Republican,
+    Calendar::Macedonian,
+    Calendar::Syrian,
+    Calendar::Julian,
+    Calendar::Gregorian,
+    Calendar::IslamicA,
+    Calendar::IslamicB,
+    Calendar::Bahai,
+    Calendar::Saka,
+    Calendar::Hebrew,
+];
+
+// The calendar that has the number.
+impl TryFrom<u64> for Calendar {
+    type Error = Refusal;
+
+    ghost try_from_gives = { Reads };
+
+    fn try_from(number: u64) -> Result<Calendar, Refusal> {
+        match number {
+            1 => Ok(Calendar::Egyptian),
+            2 => Ok(Calendar::Armenian),
+            3 => Ok(Calendar::Khwarizmian),
+            4 => Ok(Calendar::Persian),
+            5 => Ok(Calendar::Ethiopian),
+            6 => Ok(Calendar::Coptic),
+            7 => Ok(Calendar::Republican),
+            8 => Ok(Calendar::Macedonian),
+            9 => Ok(Calendar::Syrian),
+            10 => Ok(Calendar::Julian),
+            11 => Ok(Calendar::Gregorian),
+            12 => Ok(Calendar::IslamicA),
+            13 => Ok(Calendar::IslamicB),
+            14 => Ok(Calendar::Bahai),
+            15 => Ok(Calendar::Saka),
+            18 => Ok(Calendar::Hebrew),
+            _ => Err(Refusal::UnknownCalendar),
+        }
+    }
+}
+
+// Whether a number is a calendar's.
 pub fn is_listed(c: u64) -> bool
     ensures { result ≡ listed c }
 {
-    if 18 < c {
-        return false;
-    }
-    let bits: u64 = 0x4fffe;
-    (bits >> c) % 2 == 1
+    Calendar::try_from(c).is_ok()
 }
 
 // The first year of a calendar that is listed.
 pub fn first_year(c: u64) -> i64
     ensures { OfListed c (λ K. result ≡ K.first_year) }
 {
-    if (c == 10) | (c == 11) {
+    if (c == Calendar::Julian as u64) | (c == Calendar::Gregorian as u64) {
         return FIRST_YEAR;
     }
     1
@@ -39,30 +114,27 @@ pub fn first_year(c: u64) -> i64
 pub fn last_day(c: u64) -> u64
     ensures { (result ≤ last_day) × OfListed c (λ K. result ≡ last_of K) }
 {
-    if c == 7 {
+    if c == Calendar::Republican as u64 {
         return REPUBLICAN_END;
     }
     LAST_DAY
 }
 
-// The position that is a strip of loose days in a calendar that is listed; 0 where it has none.
+// The position that is a strip of loose days in a calendar that is listed; None where it has none.
 #[tactic(auto, using(asking::proofs::Arms::strip_persian, asking::proofs::Arms::strip_bahai, asking::proofs::Arms::strip_thirteenth, asking::proofs::Arms::strip_none))]
-pub fn strip(c: u64) -> u64
-    ensures { OfListed c (λ K. result ≡ strip_or0 K.strip) }
+pub fn strip(c: u64) -> Option<u64>
+    ensures { OfListed c (λ K. result ≡ given K.strip) }
 {
-    // Persian
-    if c == 4 {
-        return 9;
+    if c == Calendar::Persian as u64 {
+        return Some(9);
     }
-    // Bahai
-    if c == 14 {
-        return 19;
+    if c == Calendar::Bahai as u64 {
+        return Some(19);
     }
-    // Egyptian to Republican
-    if c < 8 {
-        return 13;
+    if c <= Calendar::Republican as u64 {
+        return Some(13);
     }
-    0
+    None
 }
 
 // Whether some calendar may have such a year.
@@ -82,18 +154,18 @@ pub fn since(year: i64) -> u16
     0
 }
 
-// Why a year has no position that was sought: 1, 2 or 3, whichever is first, 2^32 high.
-pub fn no_month(c: u64, year: i64) -> u64
-    ensures { result ≡ packed_none c year }
+// Why a year has no position that was sought: 1, 2 or 3, whichever is first.
+pub fn no_month(c: u64, year: i64) -> Refusal
+    ensures { number_of result ≡ none_number c year }
 {
     if !is_listed(c) {
-        return 0x1_0000_0000;
+        return Refusal::UnknownCalendar;
     }
     if year < first_year(c) {
-        return 0x2_0000_0000;
+        return Refusal::YearOutOfRange;
     }
     if LAST_YEAR < year {
-        return 0x2_0000_0000;
+        return Refusal::YearOutOfRange;
     }
-    0x3_0000_0000
+    Refusal::NoSuchMonth
 }

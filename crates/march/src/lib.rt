@@ -2,71 +2,66 @@
 // from March of -4800; months lie on the line 153, 5, 2. Positions are counted from 0.
 #![tactic(auto)]
 
-ghost use Rattle.std.specs.Prelude.{cond, ◌||◌, ◌≡◌, ◌+◌, ◌-◌, ◌*◌, ◌/◌, ◌%◌, ◌^◌, ◌≤◌, ◌<◌, eqb, ltb, get_or};
+ghost use Rattle.std.specs.Prelude.{cond, ◌||◌, ◌≡◌, ℕ, ◌+◌, ◌-◌, ◌*◌, ◌/◌, ◌%◌, ◌^◌, ◌≤◌, ◌<◌, ℤ, negsuc, eqb, ltb};
+ghost use Rattle.counting.specs.Answers.{Calendar};
 ghost use Rattle.calendar_rules.specs.Calendars.{macedonian, syrian, julian, gregorian};
 ghost use Rattle.months.specs.Leap.{gregorian_long};
-ghost use Rattle.months.specs.March.{julian_start, julian_years, julian_first, MarchDate, JulianDate, month_length};
-ghost use Rattle.months.specs.Parts.{length_at, MonthIs, MonthOf, PlaceOf, PackedAt};
+ghost use Rattle.months.specs.March.{next_march, OfJulianKind, MarchDate, month_length};
+ghost use Rattle.months.specs.Parts.{LengthAt, PackedAt};
+ghost use Rattle.parts.specs.Found.{MonthAt, PlaceAt};
+ghost use Rattle.months.proofs.MarchDates.{macedonian_kind, syrian_kind, julian_kind};
 
-use parts::{Month, Place};
+use parts::{LAST_DAY, Month, PackedDay, Place};
+use refusals::Refusal;
 
-// Whether position p of a year that begins turn months after March is in the next year from March: a number.
-fn wraps(p: u64, turn: u64) -> u64
-    requires { (p < 12) × (turn < 12) }
-    ensures { (result ≡ cond (ltb (p + turn) 12) 0 1) × (12 * result ≤ p + turn) × (p + turn < 12 * result + 12) }
-{
-    if p + turn < 12 {
-        return 0;
-    }
-    1
+// The constants of the Julian calendar that the Gregorian shares: its first year from March, the months from March to its beginning, and the year of its dates.
+const JULIAN_YEAR: u16 = 87;
+
+const JULIAN_TURN: u64 = 10;
+
+const JULIAN_BEFORE: i32 = -4800;
+
+// What the days are less than those counted from March of -4800.
+const JULIAN_DAYS_BEFORE: u64 = 32082;
+
+const GREGORIAN_DAYS_BEFORE: u32 = 32044;
+
+// A month of the years that are counted from March: its year, and how many months after March it is.
+#[derive(Clone, Copy, Debug, PartialEq, Eq)]
+struct MarchMonth {
+    year: u32,
+    month: u64,
+    ghost small: { month < 12 },
 }
 
-// The days before the month q months after March, on the line 153, 5, 2: for these q by a multiplication that needs no division.
-fn days_before(q: u64) -> u64
-    requires { q < 12 }
-    ensures { result ≡ (153 * q + 2) / 5 }
+// Position p of the year that is i years after the first, where years begin turn months after March, the first in the year first.
+fn month_of(first: u16, turn: u64, i: u16, p: u64) -> MarchMonth
+    requires { (turn < 12) × (p < 12) }
+    ensures year { result.year ≡ first + i + next_march turn p }
+    ensures month { result.month ≡ p + turn - 12 * next_march turn p }
 {
+    let next = parts::pick(p + turn < 12, 0, 1);
+    MarchMonth {
+        year: u32::from(first) + u32::from(i) + (next as u32),
+        month: p + turn - 12 * next,
+    }
+}
+
+// The days before a month, on the line 153, 5, 2: for these numbers by a multiplication that needs no division.
+fn days_before(at: MarchMonth) -> u64
+    ensures { result ≡ (153 * at.month + 2) / 5 }
+{
+    let q = at.month;
     (979 * q + 16) / 32
 }
 
-// The length of the month q months after March, given that of February. The bits are those of the months of 31 days.
-fn month_length(february: u64, q: u64) -> u64
-    requires { (february ≤ 29) × (q < 12) }
-    ensures { result ≡ cond (eqb q 11) february (30 + 1717 / 2 ^ q % 2) }
+// The length of a month, given that of February. The bits are those of the months of 31 days: a word in a register, where a table would be loaded.
+fn month_length(february: u64, at: MarchMonth) -> u64
+    requires { february ≤ 29 }
+    ensures { result ≡ cond (eqb at.month 11) february (30 + 1717 / 2 ^ at.month % 2) }
 {
+    let q = at.month;
     parts::pick(q == 11, february, 30 + (0x6b5 >> q) % 2)
-}
-
-// ---- Julian kind: the first year begins turn months after March of the year z0
-
-fn kind_length(z0: u32, turn: u64, i: u16, p: u64) -> u64
-    requires { turn < 12 }
-    ensures { result ≡ get_or (julian_years z0 turn i) p 0 }
-{
-    if 11 < p {
-        return 0;
-    }
-    let wrap = wraps(p, turn);
-    let z = (z0 as u64) + (i as u64) + wrap;
-    month_length(28 + (z % 4 + 1) / 4, p + turn - 12 * wrap)
-}
-
-// A position of the year that is i years after the first.
-fn kind_month(z0: u32, turn: u64, i: u16, p: u64) -> Month
-    requires { (turn < 12) × (32082 ≤ julian_start z0 + (153 * turn + 2) / 5) }
-    ensures { MonthIs (julian_years z0 turn) (julian_first z0 turn) i p result.start result.days }
-{
-    if 11 < p {
-        return Month { start: 0, days: 0 };
-    }
-    let wrap = wraps(p, turn);
-    let z = (z0 as u64) + (i as u64) + wrap;
-    let q = p + turn - 12 * wrap;
-    let days = month_length(28 + (z % 4 + 1) / 4, q);
-    Month {
-        start: 1461 * z / 4 + days_before(q) - 32082,
-        days,
-    }
 }
 
 // The date of a day, given its year from March and the days of that year before it.
@@ -82,130 +77,202 @@ fn date_in(before: i32, turn: u64, z: u32, rest: u64) -> Place
     parts::place_in(before, z, p + 13 - turn, d)
 }
 
-// The same given the days from March of -4800, where every fourth year is leap.
-fn kind_date(before: i32, turn: u64, q: u64) -> Place
-    requires { (turn < 12) × (q ≤ 8589934592) }
-    ensures { JulianDate before turn q result.year result.month result.day }
-{
-    let t = 4 * q + 3;
-    date_in(before, turn, (t / 1461) as u32, t % 1461 / 4)
+// ---- Julian kind: every fourth year is leap
+
+// A calendar of this kind by its constants: its years begin TURN months after March, the first in YEAR, counted from March of -4800, on FIRST_DAY. BEFORE is the
+// year of its dates before that in year 0.
+pub trait JulianKind {
+    const YEAR: u16;
+
+    const TURN: u64;
+
+    const BEFORE: i32;
+
+    const FIRST_DAY: u32;
+
+    ghost YEAR: { ℕ };
+
+    ghost TURN: { ℕ };
+
+    ghost BEFORE: { ℤ };
+
+    ghost FIRST_DAY: { ℕ };
+
+    ghost calendar: { Calendar };
+
+    ghost of_kind: { OfJulianKind calendar YEAR TURN BEFORE FIRST_DAY };
 }
 
-pub fn macedonian_length(i: u16, p: u64) -> u64
-    ensures { result ≡ length_at macedonian i p }
-{
-    kind_length(4489, 6, i, p)
+pub struct Macedonian;
+
+impl JulianKind for Macedonian {
+    const YEAR: u16 = 4489;
+
+    const TURN: u64 = 6;
+
+    const BEFORE: i32 = -4489;
+
+    const FIRST_DAY: u32 = 1607709;
+
+    ghost YEAR = { 4489 };
+
+    ghost TURN = { 6 };
+
+    ghost BEFORE = { negsuc 4488 };
+
+    ghost FIRST_DAY = { 1607709 };
+
+    ghost calendar = { macedonian };
+
+    ghost of_kind = { macedonian_kind };
 }
 
-pub fn macedonian_month(i: u16, p: u64) -> Month
-    ensures { MonthOf macedonian i p result.start result.days }
-{
-    kind_month(4489, 6, i, p)
+pub struct Syrian;
+
+impl JulianKind for Syrian {
+    const YEAR: u16 = 4489;
+
+    const TURN: u64 = 7;
+
+    const BEFORE: i32 = -4489;
+
+    const FIRST_DAY: u32 = 1607739;
+
+    ghost YEAR = { 4489 };
+
+    ghost TURN = { 7 };
+
+    ghost BEFORE = { negsuc 4488 };
+
+    ghost FIRST_DAY = { 1607739 };
+
+    ghost calendar = { syrian };
+
+    ghost of_kind = { syrian_kind };
 }
 
-pub fn macedonian_date(day: u32) -> Place
-    ensures { PlaceOf macedonian day result.year result.month result.day }
-{
-    if day < 1607709 {
-        return parts::nowhere();
-    }
-    kind_date(-4489, 6, (day as u64) + 32082)
+pub struct Julian;
+
+impl JulianKind for Julian {
+    const YEAR: u16 = JULIAN_YEAR;
+
+    const TURN: u64 = JULIAN_TURN;
+
+    const BEFORE: i32 = JULIAN_BEFORE;
+
+    const FIRST_DAY: u32 = 0;
+
+    ghost YEAR = { 87 };
+
+    ghost TURN = { 10 };
+
+    ghost BEFORE = { negsuc 4799 };
+
+    ghost FIRST_DAY = { 0 };
+
+    ghost calendar = { julian };
+
+    ghost of_kind = { julian_kind };
 }
 
-pub fn syrian_length(i: u16, p: u64) -> u64
-    ensures { result ≡ length_at syrian i p }
+// The length of the February that ends year z.
+fn february(z: u32) -> u64
+    ensures { result ≡ cond (eqb (z % 4) 3) 29 28 }
 {
-    kind_length(4489, 7, i, p)
+    28 + (u64::from(z) % 4 + 1) / 4
 }
 
-pub fn syrian_month(i: u16, p: u64) -> Month
-    ensures { MonthOf syrian i p result.start result.days }
-{
-    kind_month(4489, 7, i, p)
-}
-
-pub fn syrian_date(day: u32) -> Place
-    ensures { PlaceOf syrian day result.year result.month result.day }
-{
-    if day < 1607739 {
-        return parts::nowhere();
-    }
-    kind_date(-4489, 7, (day as u64) + 32082)
-}
-
-pub fn julian_length(i: u16, p: u64) -> u64
-    ensures { result ≡ length_at julian i p }
-{
-    kind_length(87, 10, i, p)
-}
-
-pub fn julian_month(i: u16, p: u64) -> Month
-    ensures { MonthOf julian i p result.start result.days }
-{
-    kind_month(87, 10, i, p)
-}
-
-pub fn julian_date(day: u32) -> Place
-    ensures { PlaceOf julian day result.year result.month result.day }
-{
-    kind_date(-4800, 10, (day as u64) + 32082)
-}
-
-// ---- Gregorian
-
-pub fn gregorian_length(i: u16, p: u64) -> u64
-    ensures { result ≡ length_at gregorian i p }
+// The length of a position of the year that is i years after the first.
+pub fn length_at<K: JulianKind>(i: u16, p: u64) -> Option<u64>
+    ensures { LengthAt K.calendar i p result }
 {
     if 11 < p {
-        return 0;
+        return None;
     }
-    let wrap = wraps(p, 10);
-    let z = 87 + (i as u32) + (wrap as u32);
-    month_length(28 + gregorian_years::extra_days(z), p + 10 - 12 * wrap)
+    let at = month_of(K::YEAR, K::TURN, i, p);
+    Some(month_length(february(at.year), at))
 }
 
-// Whether month q has no such day: the century rule is looked at only for a 29 February.
-fn no_day(z: u32, q: u64, day: u64) -> bool
-    requires { q < 12 }
-    ensures { result ≡ (eqb day 0 || ltb (month_length (gregorian_long z) q) day) }
+// Such a position.
+pub fn month_at<K: JulianKind>(i: u16, p: u64) -> Option<Month>
+    ensures { MonthAt K.calendar i p result }
 {
-    let usual = parts::pick(q == 11, 28, 30 + (0x6b5 >> q) % 2);
+    if 11 < p {
+        return None;
+    }
+    let at = month_of(K::YEAR, K::TURN, i, p);
+    let days = month_length(february(at.year), at);
+    Some(Month {
+        start: 1461 * u64::from(at.year) / 4 + days_before(at) - JULIAN_DAYS_BEFORE,
+        days,
+    })
+}
+
+// The date of a day.
+pub fn date_on<K: JulianKind>(day: u32) -> Option<Place>
+    ensures { PlaceAt K.calendar day result }
+{
+    if day < K::FIRST_DAY {
+        return None;
+    }
+    let t = 4 * (u64::from(day) + JULIAN_DAYS_BEFORE) + 3;
+    Some(date_in(K::BEFORE, K::TURN, (t / 1461) as u32, t % 1461 / 4))
+}
+
+// ---- Gregorian: another rule of leap years, and no constant, so that its functions stand beside the generic ones
+
+pub fn gregorian_length(i: u16, p: u64) -> Option<u64>
+    ensures { LengthAt gregorian i p result }
+{
+    if 11 < p {
+        return None;
+    }
+    let at = month_of(JULIAN_YEAR, JULIAN_TURN, i, p);
+    Some(month_length(28 + gregorian_years::extra_days(at.year), at))
+}
+
+// Whether a month has no such day: the century rule is looked at only for a 29 February.
+fn no_day(at: MarchMonth, day: u64) -> bool
+    ensures { result ≡ (eqb day 0 || ltb (month_length (gregorian_long at.year) at.month) day) }
+{
+    let q = at.month;
+    let usual = month_length(28, at);
     if (day != 0) & (day <= usual) {
         return false;
     }
     if (q != 11) | (day != 29) {
         return true;
     }
-    gregorian_years::extra_days(z) == 0
+    gregorian_years::extra_days(at.year) == 0
 }
 
-// A day of a position of the year that is i years after the first: its number with 3, 4 and 5 tried, and a refusal's number 2^32 high. By itself, and not
+// A day of a position of the year that is i years after the first, with 3, 4 and 5 tried. By itself, and not
 // from a position as in the other calendars, since the length of February is seldom needed.
-pub fn gregorian_day(i: u16, p: u64, day: u64) -> u64
-    ensures { PackedAt gregorian i p day result }
+pub fn gregorian_day(i: u16, p: u64, day: u64) -> PackedDay
+    ensures { PackedAt gregorian i p day result.number }
 {
     if 11 < p {
-        return 0x3_0000_0000;
+        return PackedDay::refused(Refusal::NoSuchMonth);
     }
-    let wrap = wraps(p, 10);
-    let z = 87 + (i as u32) + (wrap as u32);
-    let q = p + 10 - 12 * wrap;
-    if no_day(z, q, day) {
-        return 0x4_0000_0000;
+    let at = month_of(JULIAN_YEAR, JULIAN_TURN, i, p);
+    if no_day(at, day) {
+        return PackedDay::refused(Refusal::NoSuchDay);
     }
-    let n = gregorian_years::year_start(z) + days_before(q) - 32044 + (day - 1);
-    if 5373484 < n {
-        return 0x5_0000_0000;
+    let n = gregorian_years::year_start(at.year) + days_before(at)
+        - u64::from(GREGORIAN_DAYS_BEFORE)
+        + (day - 1);
+    if LAST_DAY < n {
+        return PackedDay::refused(Refusal::DayOutOfRange);
     }
-    n
+    PackedDay { number: n }
 }
 
-pub fn gregorian_date(day: u32) -> Place
-    ensures { PlaceOf gregorian day result.year result.month result.day }
+pub fn gregorian_date(day: u32) -> Option<Place>
+    ensures { PlaceAt gregorian day result }
 {
     if day < 38 {
-        return parts::nowhere();
+        return None;
     }
-    let y = gregorian_years::year_of(day, 32044);
-    date_in(-4800, 10, y.year, y.rest)
+    let y = gregorian_years::year_of(day, GREGORIAN_DAYS_BEFORE);
+    Some(date_in(JULIAN_BEFORE, JULIAN_TURN, y.year, y.rest))
 }

@@ -17,7 +17,7 @@ use Rattle.counting.specs.Years.{year_at}
 use Rattle.counting.proofs.Counting.{date_is}
 use Rattle.counting.proofs.Totals.{total_take_suc}
 use Rattle.months.specs.Lines.{quotient}
-use Rattle.months.specs.Parts.{MonthIs, DateIs, PlaceIs}
+use Rattle.months.specs.Parts.{MonthIs, DateIs}
 use Rattle.months.proofs.ByLine.{OnLine, before_mark, by_line_lem}
 
 module _ (L : ℕ → List ℕ) (has_days : (i : ℕ) → 1 ≤ total (L i)) where
@@ -57,14 +57,8 @@ module _ (L : ℕ → List ℕ) (has_days : (i : ℕ) → 1 ≤ total (L i)) whe
       (omega (arith, x.begun)) (omega (arith, x.begun, x.still, total_take_suc p ls)) ey em ed
 
 -- a year's position that is none of the list
-pub no_length : (L : ℕ → List ℕ) (i p : ℕ) → length (L i) ≤ p → 0 ≡ get_or (L i) p 0
-no_length L i p h = sym (get_or-eq_default (L i) 0 {n = p} h)
-
-pub none_there_lem : (L : ℕ → List ℕ) (first i p begin : ℕ) → 0 ≡ get_or (L i) p 0 → MonthIs L first i p begin 0
-none_there_lem L first i p begin e = record { length_is = e; begins = λ k. absurd (omega arith) }
-
-pub no_month_lem : (L : ℕ → List ℕ) (first i p begin : ℕ) → length (L i) ≤ p → MonthIs L first i p begin 0
-no_month_lem L first i p begin h = none_there_lem L first i p begin (no_length L i p h)
+pub no_length : (L : ℕ → List ℕ) (i p : ℕ) → length (L i) ≤ p → get_or (L i) p 0 ≡ 0
+no_length L i p h = get_or-eq_default (L i) 0 {n = p} h
 
 -- a formula for the lengths, tested at each position
 pub by_test : (f g : ℕ → ℕ) (n : ℕ) → every (λ p. eqb (f p) (g p)) n ≡ true → (p : ℕ) → p < n → f p ≡ g p
@@ -73,10 +67,3 @@ by_test f g n t p h = eqb-true (f p) (g p) (every_at (λ p. eqb (f p) (g p)) n t
 -- a calendar with the same years
 pub same_month : {L M : ℕ → List ℕ} {first i p begin days : ℕ} → L ≡ M → MonthIs L first i p begin days → MonthIs M first i p begin days
 same_month {first = first} {i = i} {p = p} {begin = begin} {days = days} e h = subst (λ (K : ℕ → List ℕ). MonthIs K first i p begin days) e h
-
--- the two cases of a place
-pub early_place : (L : ℕ → List ℕ) (F : ℤ) (first n : ℕ) (y : ℤ) (m d : ℕ) → n < first → m ≡ 0 → PlaceIs L F first n y m d
-early_place L F first n y m d h e = record { early = λ k. e; there = λ k. absurd (omega arith) }
-
-pub later_place : (L : ℕ → List ℕ) (F : ℤ) (first n : ℕ) (y : ℤ) (m d : ℕ) → first ≤ n → DateIs L F (n - first) y m d → PlaceIs L F first n y m d
-later_place L F first n y m d h e = record { early = λ k. absurd (omega arith); there = λ k. e }

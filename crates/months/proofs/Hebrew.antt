@@ -62,7 +62,7 @@ abbrev length_test : ℕ → ℕ → Bool
 length_test k p =
     let q = month_of (long k) p in
     let len = get_or (get_or kinds k []) p 0 in
-    cond (none k p) (eqb len 0) (leb (month_before k q) (month_before k (q + 1)) && eqb (month_before k (q + 1) - month_before k q) len)
+    cond (none k p) (eqb len 0) (ltb (month_before k q) (month_before k (q + 1)) && eqb (month_before k (q + 1) - month_before k q) len)
 
 length_test_lem : every (λ k. every (length_test k) 13) 6 ≡ true
 unfolding every
@@ -128,7 +128,7 @@ hebrew_length i p begin l kind x =
 module _ {y begin l kind : ℕ} (h : 1 ≤ y) (x : HebrewYear y begin l kind) (p : ℕ) (k : p ≤ 12) where
   tested : (t : Bool) → none kind p ≡ t
       → cond t (eqb (get_or (get_or kinds kind []) p 0) 0)
-      (leb (month_before kind (month_of l p)) (month_before kind (month_of l p + 1))
+      (ltb (month_before kind (month_of l p)) (month_before kind (month_of l p + 1))
       && eqb (month_before kind (month_of l p + 1) - month_before kind (month_of l p)) (get_or (get_or kinds kind []) p 0)) ≡ true
   tested t e = rw (← e, l_is h x) (every_at (length_test kind) 13 (over length_test 13 length_test_lem kind x.below) p (omega arith))
 
@@ -136,11 +136,11 @@ module _ {y begin l kind : ℕ} (h : 1 ≤ y) (x : HebrewYear y begin l kind) (p
   no_month_there e = eqb-true (get_or (get_or kinds kind []) p 0) 0 (tested true (rw (← l_is h x) (eq-eqb (p + 8 * l) 6 e)))
 
   pub word_length : (p + 8 * l ≡ 6 → ⊥)
-      → (month_before kind (month_of l p) ≤ month_before kind (month_of l p + 1))
+      → (month_before kind (month_of l p) < month_before kind (month_of l p + 1))
       × (month_before kind (month_of l p + 1) - month_before kind (month_of l p) ≡ get_or (get_or kinds kind []) p 0)
   word_length n =
       let b = both _ _ (tested false (rw (← l_is h x) (ne_eqb (p + 8 * l) 6 n))) in
-      (leb-true _ _ b.0, eqb-true _ _ b.1)
+      (ltb-true _ _ b.0, eqb-true _ _ b.1)
 
 pub hebrew_month : (i p begin l kind from days : ℕ) → p ≤ 12 → HebrewYear (i + 1) begin l kind → from ≡ begin + month_before kind (month_of l p)
     → days ≡ get_or (get_or kinds kind []) p 0

@@ -1,5 +1,5 @@
 -- The calendars that count from March, 8 to 11, by the formulas that code works out.
-use mathlib.Core.Path.{◌≡◌, refl, sym, subst}
+use mathlib.Core.Path.{◌≡◌, refl, sym, subst, ap, ◌∙◌}
 use mathlib.Core.Bool.{Bool, true, false, cond, not, ◌&&◌, ◌||◌, true≢false}
 use mathlib.Core.List.{List}
 use Prim.Native.Nat.{ℕ, suc, ◌+◌, ◌-◌, ◌*◌, ◌/◌, ◌%◌, ◌^◌, ◌≤◌, ◌<◌}
@@ -9,64 +9,73 @@ use lib.Dec.{eqb, ltb, leb}
 use borrow.Author.Tests.{eqb-true, eqb-false, ne_eqb, leb-false, lt-ltb, le-ltb}
 use lib.IntN.{ℤ, pos, negsuc}
 use lib.ListN.{length, get_or}
+use Rattle.basics.proofs.Cases.{cond_elim}
 use Rattle.counting.specs.Years.{year_at}
 use Rattle.counting.specs.Answers.{Calendar, years}
 use Rattle.calendar_rules.specs.Calendars.{macedonian, syrian, julian, gregorian}
 use Rattle.months.specs.Lines.{turned_by}
 use Rattle.months.specs.Leap.{years_by, gregorian_long, gregorian_start, GregorianDay}
-use Rattle.months.specs.March.{from_march, march_before, march_of, julian_long, julian_start, julian_years, julian_first, JulianDate, MarchDate, month_length}
+use Rattle.months.specs.March.{from_march, march_before, march_of, julian_long, julian_start, next_march, OfJulianKind, JulianDate, MarchDate, month_length}
 use Rattle.months.specs.Parts.{MonthIs, MonthOf, DateIs}
+use Rattle.months.proofs.Dates.{same_month}
 use Rattle.months.proofs.Rows.{gregorian_row}
 use Rattle.months.proofs.LeapLast.{wrapped, first_is, turned_positions, turned_date}
 use Rattle.months.proofs.March.{march_shape, length_is, julian_start_lem, julian_day, turned_month, macedonian_turns, syrian_turns, julian_turns}
 use Rattle.months.proofs.GregorianKind.{OfKind, kind_positions, kind_month, kind_date}
 
-pub macedonian_years : julian_years 4489 6 ≡ years macedonian
-macedonian_years = λ t i. macedonian_turns i t
-
-pub syrian_years : julian_years 4489 7 ≡ years syrian
-syrian_years = λ t i. syrian_turns i t
-
-pub julian_years_lem : julian_years 87 10 ≡ years julian
-julian_years_lem = λ t i. julian_turns i t
-
 -- ---- Julian kind
 
-pub julian_positions : (z k i : ℕ) → k < 12 → length (julian_years z k i) ≡ 12
-julian_positions z k i h = turned_positions march_shape julian_long julian_start julian_start_lem z k h i
+pub macedonian_kind : OfJulianKind macedonian 4489 6 (negsuc 4488) 1607709
+macedonian_kind =
+    record { small = omega arith; room = omega arith; years_are = λ t i. macedonian_turns i t; first_year = refl; first_day = refl; counted = refl }
 
-pub julian_month : (z₀ k i p : ℕ) → k < 12 → 32082 ≤ julian_start z₀ + (153 * k + 2) / 5 → p < 12
-    → let w = cond {A = ℕ} (ltb (p + k) 12) 0 1 in let z = z₀ + i + w in let q = p + k - 12 * w in
-    MonthIs (julian_years z₀ k) (julian_first z₀ k) i p (365 * z + z / 4 + (153 * q + 2) / 5 - 32082) (month_length (eqb (z % 4) 3) q)
-unfolding julian_long
-julian_month z₀ k i p h b l = turned_month julian_long julian_start julian_start_lem z₀ k 32082 h b i p l
+pub syrian_kind : OfJulianKind syrian 4489 7 (negsuc 4488) 1607739
+syrian_kind = record { small = omega arith; room = omega arith; years_are = λ t i. syrian_turns i t; first_year = refl; first_day = refl; counted = refl }
 
-pub kind_length : (z₀ k i p : ℕ) → k < 12 → p < 12
-    → let w = cond {A = ℕ} (ltb (p + k) 12) 0 1 in
-    let z = z₀ + i + w in
-    month_length (eqb (z % 4) 3) (p + k - 12 * w) ≡ get_or (julian_years z₀ k i) p 0
-unfolding julian_long
-kind_length z₀ k i p h l = (turned_month julian_long julian_start julian_start_lem z₀ k 0 h (omega arith) i p l).length_is
+pub julian_kind : OfJulianKind julian 87 10 (negsuc 4799) 0
+julian_kind = record { small = omega arith; room = omega arith; years_are = λ t i. julian_turns i t; first_year = refl; first_day = refl; counted = refl }
 
--- a calendar that is one of them
-julian_kind : (K : Calendar) (z₀ k : ℕ) (Y F : ℤ) → k < 12 → 32082 ≤ julian_start z₀ + (153 * k + 2) / 5 → year_at F (suc z₀) ≡ Y → julian_years z₀ k ≡ years K
-    → (day : ℕ) (y : ℤ) (m d : ℕ) → julian_first z₀ k ≤ day → JulianDate F k (day + 32082) y m d → DateIs (years K) Y (day - julian_first z₀ k) y m d
-julian_kind K z₀ k Y F h b ey e day y m d l x =
-    let s = first_is march_shape julian_long julian_start julian_start_lem z₀ k h in
-    let j = julian_day (day + 32082) in
-    subst (λ (L : ℕ → List ℕ). DateIs L Y (day - julian_first z₀ k) y m d) e
-    (turned_date march_shape julian_long julian_start julian_start_lem z₀ k h Y F ey (day - julian_first z₀ k) ((4 * (day + 32082) + 3) / 1461)
-    ((4 * (day + 32082) + 3) % 1461 / 4) (omega (arith, j.0, s)) j.1 y m d x)
+module _ {K : Calendar} {z₀ k : ℕ} {before : ℤ} {first : ℕ} (x : OfJulianKind K z₀ k before first) where
+  pub julian_positions : (i : ℕ) → length (years K i) ≡ 12
+  julian_positions i =
+      ap (λ (L : ℕ → List ℕ). length (L i)) (sym x.years_are) ∙ turned_positions march_shape julian_long julian_start julian_start_lem z₀ k x.small i
 
-module _ (day : ℕ) (y : ℤ) (m d : ℕ) where
-  pub macedonian_date : 1607709 ≤ day → JulianDate (negsuc 4488) 6 (day + 32082) y m d → DateIs (years macedonian) (pos 1) (day - 1607709) y m d
-  macedonian_date h x = julian_kind macedonian 4489 6 (pos 1) (negsuc 4488) (omega arith) (omega arith) refl macedonian_years day y m d h x
+  pub julian_month : (i p : ℕ) → p < 12
+      → let w = next_march k p in let z = z₀ + i + w in let q = p + k - 12 * w in
+      MonthOf K i p (365 * z + z / 4 + (153 * q + 2) / 5 - 32082) (month_length (eqb (z % 4) 3) q)
+  unfolding julian_long
+  julian_month i p l =
+      let w : ℕ = next_march k p in
+      let z : ℕ = z₀ + i + w in
+      let q : ℕ = p + k - 12 * w in
+      let m = turned_month julian_long julian_start julian_start_lem z₀ k 32082 x.small x.room i p l in
+      subst (λ (first : ℕ). MonthIs (years K) first i p (365 * z + z / 4 + (153 * q + 2) / 5 - 32082) (month_length (eqb (z % 4) 3) q)) x.counted (same_month x.years_are m)
 
-  pub syrian_date : 1607739 ≤ day → JulianDate (negsuc 4488) 7 (day + 32082) y m d → DateIs (years syrian) (pos 1) (day - 1607739) y m d
-  syrian_date h x = julian_kind syrian 4489 7 (pos 1) (negsuc 4488) (omega arith) (omega arith) refl syrian_years day y m d h x
+  -- what code takes away is there
+  pub julian_room : (i p : ℕ) → p < 12 → let w = next_march k p in 32082 ≤ julian_start (z₀ + i + w) + (153 * (p + k - 12 * w) + 2) / 5
+  julian_room i p l =
+      cond_elim (λ (w : ℕ). 32082 ≤ julian_start (z₀ + i + w) + (153 * (p + k - 12 * w) + 2) / 5) (ltb (p + k) 12) 0 1
+      (λ h. near (z₀ + i + 0) (p + k - 12 * 0) (omega arith) (omega arith))
+      (λ h. far (z₀ + i + 1) (p + k - 12 * 1) (omega arith))
+    where
+      far : (z q : ℕ) → z₀ < z → 32082 ≤ julian_start z + (153 * q + 2) / 5
+      far z q o = omega (arith, x.room, x.small)
 
-  pub julian_date : JulianDate (negsuc 4799) 10 (day + 32082) y m d → DateIs (years julian) (negsuc 4711) (day - 0) y m d
-  julian_date x = julian_kind julian 87 10 (negsuc 4711) (negsuc 4799) (omega arith) (omega arith) refl julian_years_lem day y m d (omega arith) x
+      near : (z q : ℕ) → z₀ ≤ z → k ≤ q → 32082 ≤ julian_start z + (153 * q + 2) / 5
+      near z q o r =
+          let a : z₀ / 4 ≤ z / 4 = omega arith in
+          let b : (153 * k + 2) / 5 ≤ (153 * q + 2) / 5 = omega arith in
+          omega (arith, x.room)
+
+  pub julian_date : (day : ℕ) (y : ℤ) (m d : ℕ) → K.first_day ≤ day → JulianDate before k (day + 32082) y m d
+      → DateIs (years K) K.first_year (day - K.first_day) y m d
+  julian_date day y m d l t =
+      let s = first_is march_shape julian_long julian_start julian_start_lem z₀ k x.small in
+      let j = julian_day (day + 32082) in
+      subst (λ (L : ℕ → List ℕ). DateIs L K.first_year (day - K.first_day) y m d) x.years_are
+      (turned_date march_shape julian_long julian_start julian_start_lem z₀ k x.small K.first_year before x.first_year (day - K.first_day)
+      ((4 * (day + 32082) + 3) / 1461)
+      ((4 * (day + 32082) + 3) % 1461 / 4) (omega (arith, j.0, s, x.counted, x.room)) j.1 y m d t)
 
 -- ---- Gregorian
 
@@ -78,34 +87,16 @@ pub gregorian_positions : (i : ℕ) → length (years gregorian i) ≡ 12
 gregorian_positions i = kind_positions gregorian_kind i
 
 pub gregorian_month : (i p : ℕ) → p < 12
-    → let w = cond {A = ℕ} (ltb (p + 10) 12) 0 1 in let z = 87 + i + w in let q = p + 10 - 12 * w in
+    → let w = next_march 10 p in let z = 87 + i + w in let q = p + 10 - 12 * w in
     MonthOf gregorian i p (gregorian_start z + (153 * q + 2) / 5 - 32044) (month_length (gregorian_long z) q)
 unfolding years_by
 gregorian_month i p h =
-    let w : ℕ = cond (ltb (p + 10) 12) 0 1 in
+    let w : ℕ = next_march 10 p in
     kind_month gregorian_kind i p _ _ _ _ h refl refl refl (length_is gregorian_long (87 + i + w) (p + 10 - 12 * w) (wrapped 12 p 10 h (omega arith)).1)
 
 pub gregorian_date : (day z rest : ℕ) (y : ℤ) (m d : ℕ) → 38 ≤ day → GregorianDay (day + 32044) z rest → MarchDate (negsuc 4799) 10 z rest y m d
     → DateIs (years gregorian) (negsuc 4711) (day - 38) y m d
 gregorian_date = kind_date gregorian_kind (negsuc 4799) refl
-
--- what code takes away is there
-pub julian_room : (z₀ k i p w : ℕ) → k < 12 → 32082 ≤ julian_start z₀ + (153 * k + 2) / 5 → p < 12 → 12 * w ≤ p + k → p + k < 12 * w + 12
-    → 32082 ≤ julian_start (z₀ + i + w) + (153 * (p + k - 12 * w) + 2) / 5
-julian_room z₀ k i p w h b l m n = go (dec_lt 0 w)
-  where
-    far : (z q : ℕ) → z₀ < z → 32082 ≤ julian_start z + (153 * q + 2) / 5
-    far z q o = omega arith
-
-    near : (z q : ℕ) → z₀ ≤ z → k ≤ q → 32082 ≤ julian_start z + (153 * q + 2) / 5
-    near z q o r =
-        let x : z₀ / 4 ≤ z / 4 = omega arith in
-        let y : (153 * k + 2) / 5 ≤ (153 * q + 2) / 5 = omega arith in
-        omega arith
-
-    go : Dec (0 < w) → 32082 ≤ julian_start (z₀ + i + w) + (153 * (p + k - 12 * w) + 2) / 5
-    go (yes o) = far (z₀ + i + w) (p + k - 12 * w) (omega arith)
-    go (no o) = near (z₀ + i + w) (p + k - 12 * w) (omega arith) (omega arith)
 
 -- 29 February and the other days
 module _ (q d : ℕ) (t : Bool) where
@@ -151,7 +142,7 @@ length_small t q = go (eqb q 11) t
 
 pub gregorian_has : (i p : ℕ) → p < 12 → 1 ≤ get_or (years gregorian i) p 0
 gregorian_has i p h =
-    let w : ℕ = cond (ltb (p + 10) 12) 0 1 in
+    let w : ℕ = next_march 10 p in
     omega (arith, (gregorian_month i p h).length_is, length_small (gregorian_long (87 + i + w)) (p + 10 - 12 * w))
 
 -- and those before a year, by one division

@@ -31,10 +31,14 @@ month_of l p = cond (ltb 6 p) (p + l - 1) p
 abbrev pub months_to : ℕ → ℕ
 months_to y = (235 * y + 13) / 19
 
+-- one day past the gate a, and two past each of b, c and d
+abbrev pub past_gates : ℕ → ℕ → ℕ → ℕ → ℕ → ℕ
+past_gates moon a b c d = cond (leb a moon) 1 0 + 2 * (cond (leb b moon) 1 0 + cond (leb c moon) 1 0 + cond (leb d moon) 1 0)
+
 -- the days from Monday to the year's first day, where it is no longer Monday from a on and no longer Tuesday from b on
 abbrev pub gate_days : ℕ → ℕ → ℕ → ℕ
-gate_days rest a b = cond (leb a rest) 1 0 + 2 * (cond (leb b rest) 1 0 + cond (leb 103680 rest) 1 0 + cond (leb 155520 rest) 1 0)
+gate_days rest a b = past_gates rest a b 103680 155520
 
 -- the next year's new moon, counted from the Monday 50 or 54 weeks on: the days from that week's Saturday to its first day
 abbrev pub next_days : ℕ → ℕ → ℕ → ℕ
-next_days far a b = cond (leb a far) 1 0 + 2 * (cond (leb 155520 far) 1 0 + cond (leb b far) 1 0 + cond (leb 285120 far) 1 0)
+next_days far a b = past_gates far a 155520 b 285120

@@ -1,5 +1,7 @@
 -- For code: years counted from March, where the leap day is the last. Nobody has to believe this page.
-use Rattle.std.specs.Prelude.{Bool, cond, List, [], ◌∷◌, ℕ, ◌+◌, ◌-◌, ◌*◌, ◌/◌, ◌%◌, ◌^◌, eqb, ℤ}
+use Rattle.std.specs.Prelude.{◌≡◌, Bool, cond, List, [], ◌∷◌, ℕ, suc, ◌+◌, ◌-◌, ◌*◌, ◌/◌, ◌%◌, ◌^◌, ◌≤◌, ◌<◌, eqb, ltb, ℤ}
+use Rattle.counting.specs.Years.{year_at}
+use Rattle.counting.specs.Answers.{Calendar, years}
 use Rattle.calendar_rules.specs.Calendars.{◌or◌}
 use Rattle.months.specs.Lines.{turned_by}
 use Rattle.months.specs.Leap.{years_by}
@@ -46,3 +48,17 @@ MarchDate before turn z rest y m d = DateIn 12 march_before march_of before turn
 -- the same from q, the days from March of -4800 with every fourth year leap
 abbrev pub JulianDate : ℤ → ℕ → ℕ → ℤ → ℕ → ℕ → Type 0
 JulianDate before turn q y m d = MarchDate before turn ((4 * q + 3) / 1461) ((4 * q + 3) % 1461 / 4) y m d
+
+-- a year that begins k months after March has its position p in the year from March that it begins in, or in the next
+abbrev pub next_march : ℕ → ℕ → ℕ
+next_march k p = cond (ltb (p + k) 12) 0 1
+
+-- K is the calendar with every fourth year leap whose years begin k months after March, the first in year z, on day first; before is the year of the dates before
+-- that in year 0
+pub record OfJulianKind (K : Calendar) (z k : ℕ) (before : ℤ) (first : ℕ) : Type 0 where
+  pub small : k < 12
+  pub room : 32082 ≤ julian_start z + (153 * k + 2) / 5
+  pub years_are : julian_years z k ≡ years K
+  pub first_year : year_at before (suc z) ≡ K.first_year
+  pub first_day : first ≡ K.first_day
+  pub counted : julian_first z k ≡ K.first_day

@@ -1,5 +1,5 @@
 -- For code: a position of a year, and the date of a day, as they are found. Nobody has to believe this page.
-use Rattle.std.specs.Prelude.{◌≡◌, cond, ◌||◌, List, eqb, ltb, ℕ, ◌+◌, ◌-◌, ◌≤◌, ◌<◌, ℤ, pos, get_or, take}
+use Rattle.std.specs.Prelude.{◌≡◌, cond, ◌||◌, List, eqb, ltb, ℕ, ◌+◌, ◌-◌, ◌≤◌, ◌<◌, ℤ, pos, get_or, take, Option, MatchOption}
 use Rattle.counting.specs.Calendar.{total, start, date_at}
 use Rattle.counting.specs.Years.{year_at}
 use Rattle.counting.specs.Answers.{Calendar, years, last_day}
@@ -18,34 +18,28 @@ MonthOf K i p begin days = MonthIs (years K) K.first_day i p begin days
 abbrev pub length_at : Calendar → ℕ → ℕ → ℕ
 length_at K i p = get_or (years K i) p 0
 
--- n is the length of position p: in every year of a calendar, in year i of each calendar of a family, in every year of each
-abbrev pub LengthYearly : Calendar → ℕ → ℕ → Type 0
-LengthYearly K p n = (i : ℕ) → n ≡ length_at K i p
+-- such a length as it is found: none where it is 0
+abbrev pub IsLength : ℕ → Option ℕ → Type 0
+IsLength n found = MatchOption found (n ≡ 0) (λ days. (1 ≤ days) × (days ≡ n))
 
-abbrev pub LengthIn : (ℕ → Calendar) → ℕ → ℕ → ℕ → Type 0
-LengthIn family i p n = (first : ℕ) → n ≡ length_at (family first) i p
+-- that of position p of year i, in every year of a calendar, in year i of each calendar of a family, in every year of each
+abbrev pub LengthAt : Calendar → ℕ → ℕ → Option ℕ → Type 0
+LengthAt K i p found = IsLength (length_at K i p) found
 
-abbrev pub LengthEver : (ℕ → Calendar) → ℕ → ℕ → Type 0
-LengthEver family p n = (first : ℕ) → LengthYearly (family first) p n
+abbrev pub LengthYearly : Calendar → ℕ → Option ℕ → Type 0
+LengthYearly K p found = (i : ℕ) → LengthAt K i p found
+
+abbrev pub LengthIn : (ℕ → Calendar) → ℕ → ℕ → Option ℕ → Type 0
+LengthIn family i p found = (first : ℕ) → LengthAt (family first) i p found
+
+abbrev pub LengthEver : (ℕ → Calendar) → ℕ → Option ℕ → Type 0
+LengthEver family p found = (first : ℕ) → LengthYearly (family first) p found
 
 -- the date that counting n days from the first reaches
 pub record DateIs (L : ℕ → List ℕ) (first_year : ℤ) (n : ℕ) (y : ℤ) (m d : ℕ) : Type 0 where
   pub year : y ≡ year_at first_year (date_at L n).year
   pub month : m ≡ (date_at L n).month
   pub day : d ≡ (date_at L n).day
-
--- the date of day n; month 0 before the first
-pub record PlaceIs (L : ℕ → List ℕ) (first_year : ℤ) (first n : ℕ) (y : ℤ) (m d : ℕ) : Type 0 where
-  pub early : n < first → m ≡ 0
-  pub there : first ≤ n → DateIs L first_year (n - first) y m d
-
-abbrev pub PlaceOf : Calendar → ℕ → ℤ → ℕ → ℕ → Type 0
-PlaceOf K n y m d = PlaceIs (years K) K.first_year K.first_day n y m d
-
--- the same up to a last day; month 0 after it too
-pub record PlaceTo (K : Calendar) (last n : ℕ) (y : ℤ) (m d : ℕ) : Type 0 where
-  pub late : last < n → m ≡ 0
-  pub in_time : n ≤ last → PlaceOf K n y m d
 
 -- day d of a position that begins on day b and has l days, as one number: 4 and 5, which are tried, 2^32 high
 abbrev pub packed_in : ℕ → ℕ → ℕ → ℕ

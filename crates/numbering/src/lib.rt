@@ -1,183 +1,166 @@
-// The day of a date as one number: the day, or a refusal's number 2^32 high. Plain numbers, since a large function with two callers is called, and would hand a
-// struct over through memory. The families of calendars are crates of their own; here each calendar is given its family and its first day, and the refusals
-// are tried in their order: 1, 2, 3, 4, 17, 5. A test in the form that a date meets comes first, so that the compiler puts what follows next to it.
+// The day of a date. It is handed over as one number, since a large function with two callers is called. The families of calendars are crates of their own; here
+// each calendar is given its family and its first day, and the refusals are tried in their order: 1, 2, 3, 4, 17, 5. A test in the form that a date meets comes
+// first, so that the compiler puts what follows next to it. A calendar is asked for by its number, and the parts of a date are arguments, as C hands them over: any
+// are asked, and the clause `day_answer calendar year month day` answers them.
 #![tactic(auto)]
 
-ghost use Rattle.std.specs.Prelude.{cond, ◌≡◌, ◌*◌, ◌^◌, ◌≤◌, eqb, negsuc};
+ghost use Rattle.std.specs.Prelude.{◌≡◌, ◌≤◌, negsuc};
 ghost use Rattle.counting.specs.Years.{year_at};
 ghost use Rattle.calendar_rules.specs.Answers.{day_answer};
-ghost use Rattle.months.specs.Parts.{MonthOf};
-ghost use Rattle.asking.specs.Steps.{Answered, Sought, in_range, end_tried, packed_day, packed_none};
+ghost use Rattle.parts.specs.Found.{MonthAt};
+ghost use Rattle.listing.specs.Kinds.{row_of};
+ghost use Rattle.listing.specs.declared.Calendar.TheVariants.{Julian, Gregorian, Hebrew};
+ghost use Rattle.asking.specs.Steps.{Sought, in_range, end_tried, packed_day};
 
-use parts::Month;
+use listing::{Calendar, LAST_DAY, LAST_YEAR, YEARS_BEFORE_1};
+use march::{Macedonian, Syrian};
+use parts::{Month, PackedDay};
+use refusals::Refusal;
 
-const LAST_YEAR: i64 = 20000;
+const REPUBLICAN: u64 = Calendar::Republican as u64;
 
-const LAST_DAY: u64 = 5373484;
+const JULIAN: u64 = Calendar::Julian as u64;
+
+const GREGORIAN: u64 = Calendar::Gregorian as u64;
+
+const HEBREW: u64 = Calendar::Hebrew as u64;
 
 // ---- the calendars
 
-// No position.
-fn none() -> Month
-    ensures { result.days ≡ 0 }
+// A position, counted from 0, of the year that is i years after year 1. The calendars are listed in dating and measuring too: a family answers each question with
+// another function, and a row of a table would hold functions. (10, 11 and 18 have functions of their own: were those of 10 and 18 called from here too,
+// they would not be put where they are called, and a date of calendar 10 took a fifth longer.)
+fn month_at(calendar: Calendar, i: u16, p: u64) -> Option<Month>
+    requires { (calendar ≡ Julian → ⊥) × (calendar ≡ Gregorian → ⊥) × (calendar ≡ Hebrew → ⊥) }
+    ensures { MonthAt (row_of calendar) i p result }
 {
-    Month { start: 0, days: 0 }
-}
-
-// A position, counted from 0, of the year that is i years after year 1, in the calendars that begin with that year; no days where there is none. (The Hebrew
-// calendar has a function of its own.)
-fn later_month(c: u64, i: u16, p: u64) -> Month
-    requires { (c ≡ 10 → ⊥) × (c ≡ 11 → ⊥) × (c ≡ 18 → ⊥) }
-    ensures { Answered c (λ K. MonthOf K i p result.start result.days) result.days }
-{
-    match c {
-        // Egyptian
-        1 => thirties::plain_month(1448638, i, p),
-        // Armenian
-        2 => thirties::plain_month(1922868, i, p),
-        // Khwarizmian
-        3 => thirties::plain_month(1952068, i, p),
-        // Persian
-        4 => thirties::persian_month(i, p),
-        // Ethiopian
-        5 => thirties::coptic_month(1724221, i, p),
-        // Coptic
-        6 => thirties::coptic_month(1825030, i, p),
-        // Republican
-        7 => thirties::coptic_month(2375840, i, p),
-        // Macedonian
-        8 => march::macedonian_month(i, p),
-        // Syrian
-        9 => march::syrian_month(i, p),
-        // Islamic A
-        12 => islamic::month_at(1948439, i, p),
-        // Islamic B
-        13 => islamic::month_at(1948440, i, p),
-        // Bahai
-        14 => bahai::month_at(i, p),
-        // Saka
-        15 => saka::month_at(i, p),
-        _ => none(),
+    match calendar {
+        Calendar::Egyptian => thirties::plain_month(thirties::EGYPTIAN, i, p),
+        Calendar::Armenian => thirties::plain_month(thirties::ARMENIAN, i, p),
+        Calendar::Khwarizmian => thirties::plain_month(thirties::KHWARIZMIAN, i, p),
+        Calendar::Persian => thirties::persian_month(i, p),
+        Calendar::Ethiopian => thirties::coptic_month(thirties::ETHIOPIAN, i, p),
+        Calendar::Coptic => thirties::coptic_month(thirties::COPTIC, i, p),
+        Calendar::Republican => thirties::coptic_month(thirties::REPUBLICAN, i, p),
+        Calendar::Macedonian => march::month_at::<Macedonian>(i, p),
+        Calendar::Syrian => march::month_at::<Syrian>(i, p),
+        Calendar::Julian | Calendar::Gregorian | Calendar::Hebrew => None,
+        Calendar::IslamicA => islamic::month_at(islamic::ISLAMIC_A, i, p),
+        Calendar::IslamicB => islamic::month_at(islamic::ISLAMIC_B, i, p),
+        Calendar::Bahai => bahai::month_at(i, p),
+        Calendar::Saka => saka::month_at(i, p),
     }
 }
 
-// The same of the year that is y years after -4712. (The Gregorian calendar has a function of its own too.)
-fn month_in(c: u64, y: u16, p: u64) -> Month
+// The same of the year that is y years after -4712.
+fn month_in(c: u64, y: u16, p: u64) -> Option<Month>
     requires { (c ≡ 11 → ⊥) × (c ≡ 18 → ⊥) × (y ≤ 24712) }
-    ensures { Sought c (year_at (negsuc 4711) y) (λ K i. MonthOf K i p result.start result.days) result.days }
+    ensures { Sought c (year_at (negsuc 4711) y) (λ K i. MonthAt K i p result) result }
 {
-    if c != 10 {
-        let early = y < 4713;
+    if c != JULIAN {
+        let early = y < YEARS_BEFORE_1;
         if early {
-            return none();
+            return None;
         }
-        return later_month(c, y - 4713, p);
+        let Ok(calendar) = Calendar::try_from(c) else {
+            return None;
+        };
+        return month_at(calendar, y - YEARS_BEFORE_1, p);
     }
-    march::julian_month(y, p)
+    march::month_at::<march::Julian>(y, p)
 }
 
 // ---- the refusals
 
-// Why a position with so many days, or none, has no day that was sought.
-fn no_day(c: u64, year: i64, days: u64) -> u64
-    ensures { result ≡ cond (eqb days 0) (packed_none c year) (4 * 2 ^ 32) }
-{
-    if days == 0 {
-        return listing::no_month(c, year);
-    }
-    0x4_0000_0000
-}
-
 // A day, 5 tried.
-fn in_time(n: u64) -> u64
-    ensures { result ≡ in_range n }
+fn in_time(n: u64) -> PackedDay
+    ensures { result.number ≡ in_range n }
 {
     if LAST_DAY < n {
-        return 0x5_0000_0000;
+        return PackedDay::refused(Refusal::DayOutOfRange);
     }
-    n
+    PackedDay { number: n }
 }
 
 // A Republican day, 17 tried: a day that is out of range is after the end.
-fn before_end(n: u64) -> u64
-    ensures { result ≡ end_tried 7 (in_range n) }
+fn before_end(n: u64) -> PackedDay
+    ensures { result.number ≡ end_tried 7 (in_range n) }
 {
-    if listing::last_day(7) < n {
-        return 0x11_0000_0000;
+    if listing::last_day(REPUBLICAN) < n {
+        return PackedDay::refused(Refusal::CalendarEnded);
     }
-    n
+    PackedDay { number: n }
 }
 
 // A day of any calendar, 17 and 5 tried.
 #[tactic(auto, using(asking::proofs::Answers::end_of_other))]
-fn limited(calendar: u64, n: u64) -> u64
-    ensures { result ≡ end_tried calendar (in_range n) }
+fn limited(calendar: u64, n: u64) -> PackedDay
+    ensures { result.number ≡ end_tried calendar (in_range n) }
 {
-    if calendar == 7 {
+    if calendar == REPUBLICAN {
         return before_end(n);
     }
     in_time(n)
 }
 
-// Calendar 11.
-fn gregorian_day(year: i64, month: u64, day: u64) -> u64
-    ensures { result ≡ packed_day (day_answer 11 year month day) }
+fn gregorian_day(year: i64, month: u64, day: u64) -> PackedDay
+    ensures { result.number ≡ packed_day (day_answer 11 year month day) }
 {
     if listing::year_inside(year) {
         if (month == 0) | (12 < month) {
-            return 0x3_0000_0000;
+            return PackedDay::refused(Refusal::NoSuchMonth);
         }
         return march::gregorian_day(listing::since(year), month - 1, day);
     }
-    0x2_0000_0000
+    PackedDay::refused(Refusal::YearOutOfRange)
 }
 
-// Calendar 18.
-pub fn hebrew_day(year: i64, month: u64, day: u64) -> u64
-    ensures { result ≡ packed_day (day_answer 18 year month day) }
+pub fn hebrew_day(year: i64, month: u64, day: u64) -> PackedDay
+    ensures { result.number ≡ packed_day (day_answer 18 year month day) }
 {
-    if year < 1 {
-        return 0x2_0000_0000;
-    }
-    if LAST_YEAR < year {
-        return 0x2_0000_0000;
+    if (year < 1) | (LAST_YEAR < year) {
+        return PackedDay::refused(Refusal::YearOutOfRange);
     }
     if month == 0 {
-        return 0x3_0000_0000;
+        return PackedDay::refused(Refusal::NoSuchMonth);
     }
-    let m = hebrew_days::month_at((year - 1) as u16, month - 1);
+    let Some(m) = hebrew_days::month_at((year - 1) as u16, month - 1) else {
+        return PackedDay::refused(Refusal::NoSuchMonth);
+    };
     if (day == 0) | (m.days < day) {
-        return no_day(18, year, m.days);
+        return PackedDay::refused(Refusal::NoSuchDay);
     }
     in_time(m.start + (day - 1))
 }
 
 // All others.
-fn other_day(calendar: u64, year: i64, month: u64, day: u64) -> u64
+fn other_day(calendar: u64, year: i64, month: u64, day: u64) -> PackedDay
     requires { (calendar ≡ 11 → ⊥) × (calendar ≡ 18 → ⊥) }
-    ensures { result ≡ packed_day (day_answer calendar year month day) }
+    ensures { result.number ≡ packed_day (day_answer calendar year month day) }
 {
     if listing::year_inside(year) {
         if month == 0 {
-            return listing::no_month(calendar, year);
+            return PackedDay::refused(listing::no_month(calendar, year));
         }
-        let m = month_in(calendar, listing::since(year), month - 1);
+        let Some(m) = month_in(calendar, listing::since(year), month - 1) else {
+            return PackedDay::refused(listing::no_month(calendar, year));
+        };
         if (day == 0) | (m.days < day) {
-            return no_day(calendar, year, m.days);
+            return PackedDay::refused(Refusal::NoSuchDay);
         }
         return limited(calendar, m.start + (day - 1));
     }
-    listing::no_month(calendar, year)
+    PackedDay::refused(listing::no_month(calendar, year))
 }
 
 // Any calendar.
-pub fn packed_day(calendar: u64, year: i64, month: u64, day: u64) -> u64
-    ensures { result ≡ packed_day (day_answer calendar year month day) }
+pub fn packed_day(calendar: u64, year: i64, month: u64, day: u64) -> PackedDay
+    ensures { result.number ≡ packed_day (day_answer calendar year month day) }
 {
-    if calendar == 11 {
+    if calendar == GREGORIAN {
         return gregorian_day(year, month, day);
     }
-    if calendar == 18 {
+    if calendar == HEBREW {
         return hebrew_day(year, month, day);
     }
     other_day(calendar, year, month, day)

@@ -1,104 +1,74 @@
-// Numbers, names and refusals as parts of a line that is built in a lent buffer (crate `texts`). A refusal's words stand here alone.
+// Names and refusals as parts of a line that is built in a lent buffer (crate `texts`). A refusal's words stand here alone.
 // `proofs/Claims.antt` is the page to read first.
 #![tactic(auto)]
 
+ghost use Rattle.std.specs.Prelude.{◌≡◌, option_map};
 ghost use Rattle.refusals.specs.Number.{number_of};
-ghost use Rattle.decimal.specs.Decimal.{text, signed_text};
-ghost use Rattle.words.specs.Names.{name_of, calendar_names, weekday_names};
-ghost use Rattle.texts.specs.Writing.{Writes};
-ghost use Rattle.texts.specs.Columns.{left_in, right_in};
+ghost use Rattle.words.specs.Names.{name_beside, name_of, calendar_names, weekday_names};
+ghost use Rattle.texts.specs.Lines.{Adds};
+ghost use Rattle.texts.specs.Columns.{left_in};
 ghost use Rattle.phrases.specs.Phrases.{answer_words, refusal_text};
 
+use decimal::Digits;
 use refusals::Refusal;
-use texts::{append, append_left, append_right};
+use texts::Line;
+
+// The answer numbers in words. Numbers, and no `Refusal`: `answer_words` has 0 too, which is none.
+const ANSWERS: [(u64, &str); 14] = [
+    (0, "done"),
+    (1, "no such calendar"),
+    (2, "the year is out of range"),
+    (3, "no such month in that year"),
+    (4, "no such day in that month"),
+    (5, "before the calendar's first day or after 5373484"),
+    (6, "not 1 to 512 lengths of 0 to 400 days"),
+    (7, "no line gives these lengths"),
+    (8, "not 16 lowercase hexadecimal digits"),
+    (9, "another day than its date's"),
+    (10, "no line within the limits"),
+    (11, "the buffer is shorter than the count"),
+    (13, "another weekday than the day's"),
+    (17, "after the calendar's end"),
+];
 
 // The column of calendars' names: the longest has 11 letters.
 const NAME_WIDTH: usize = 11;
 
-pub fn append_number(at: usize, n: u64, line: &mut [u8]) -> usize
-    ensures { Writes at (text n) line.old line.new result }
-{
-    let mut digits = [0u8; 20];
-    let k = decimal::write(n, &mut digits);
-    append(at, &digits[..k], line)
-}
-
-pub fn append_signed(at: usize, n: i64, line: &mut [u8]) -> usize
-    ensures { Writes at (signed_text n) line.old line.new result }
-{
-    let mut digits = [0u8; 20];
-    let k = decimal::write_signed(n, &mut digits);
-    append(at, &digits[..k], line)
-}
-
-// A number at the right of a column.
-pub fn append_number_in(at: usize, width: usize, n: u64, line: &mut [u8]) -> usize
-    ensures { Writes at (right_in width (text n)) line.old line.new result }
-{
-    let mut digits = [0u8; 20];
-    let k = decimal::write(n, &mut digits);
-    append_right(at, width, &digits[..k], line)
-}
-
-pub fn append_signed_in(at: usize, width: usize, n: i64, line: &mut [u8]) -> usize
-    ensures { Writes at (right_in width (signed_text n)) line.old line.new result }
-{
-    let mut digits = [0u8; 20];
-    let k = decimal::write_signed(n, &mut digits);
-    append_right(at, width, &digits[..k], line)
-}
-
 // A calendar's name in its column.
-pub fn append_calendar(at: usize, calendar: u64, line: &mut [u8]) -> usize
-    ensures { Writes at (left_in 11 (name_of calendar_names calendar)) line.old line.new result }
+pub fn push_calendar(line: &mut Line, calendar: u64)
+    ensures { Adds (left_in 11 (name_of calendar_names calendar)) line.old line.new }
 {
-    let mut name = [0u8; 12];
-    let k = words::calendar_name(calendar, &mut name);
-    append_left(at, NAME_WIDTH, &name[..k], line)
+    let name = words::calendar_name(calendar).unwrap_or("");
+    line.push_left(NAME_WIDTH, name.as_bytes());
 }
 
-pub fn append_weekday(at: usize, weekday: u64, line: &mut [u8]) -> usize
-    ensures { Writes at (name_of weekday_names weekday) line.old line.new result }
+pub fn push_weekday(line: &mut Line, weekday: u64)
+    ensures { Adds (name_of weekday_names weekday) line.old line.new }
 {
-    let mut name = [0u8; 12];
-    let k = words::weekday_name(weekday, &mut name);
-    append(at, &name[..k], line)
+    let name = words::weekday_name(weekday).unwrap_or("");
+    line.push_text(name.as_bytes());
 }
 
-// The words of an answer number, and none for any other.
-#[tactic(auto, unfolding(words::specs::Names::name_of, words::specs::Text::bytes, crate::specs::Phrases::answer_words))]
-pub fn append_answer(at: usize, number: u64, line: &mut [u8]) -> usize
-    ensures { Writes at (name_of answer_words number) line.old line.new result }
+// The words of an answer number, if it has any.
+pub fn answer(number: u64) -> Option<&'static str>
+    ensures { option_map (λ words. words.now) result ≡ name_beside answer_words number }
 {
-    match number {
-        0 => append(at, b"done", line),
-        1 => append(at, b"no such calendar", line),
-        2 => append(at, b"the year is out of range", line),
-        3 => append(at, b"no such month in that year", line),
-        4 => append(at, b"no such day in that month", line),
-        5 => append(
-            at,
-            b"before the calendar's first day or after 5373484",
-            line,
-        ),
-        6 => append(at, b"not 1 to 512 lengths of 0 to 400 days", line),
-        7 => append(at, b"no line gives these lengths", line),
-        8 => append(at, b"not 16 lowercase hexadecimal digits", line),
-        9 => append(at, b"another day than its date's", line),
-        10 => append(at, b"no line within the limits", line),
-        11 => append(at, b"the buffer is shorter than the count", line),
-        13 => append(at, b"another weekday than the day's", line),
-        17 => append(at, b"after the calendar's end", line),
-        _ => append(at, b"", line),
-    }
+    words::name_at(&ANSWERS, number)
 }
 
-pub fn append_refusal(at: usize, why: Refusal, line: &mut [u8]) -> usize
-    ensures { Writes at (refusal_text (number_of why)) line.old line.new result }
+pub fn push_answer(line: &mut Line, number: u64)
+    ensures { Adds (name_of answer_words number) line.old line.new }
 {
-    let number = refusals::wide_number(why);
-    let a = append(at, b"refused ", line);
-    let b = append_number(a, number, line);
-    let c = append(b, b": ", line);
-    append_answer(c, number, line)
+    let words = answer(number).unwrap_or("");
+    line.push_text(words.as_bytes());
+}
+
+pub fn push_refusal(line: &mut Line, why: Refusal)
+    ensures { Adds (refusal_text (number_of why)) line.old line.new }
+{
+    let number = u64::from(why);
+    line.push_text(b"refused ");
+    line.push_text(Digits::from(number).as_bytes());
+    line.push_text(b": ");
+    push_answer(line, number);
 }

@@ -2,61 +2,43 @@
 // the example's answers; an empty input writes nothing.
 #![tactic(auto)]
 
-ghost use Rattle.std.specs.Prelude.{◌≤◌};
-
 use carrying::Unfinished;
+use stdio::Failure;
 
-fn least(a: usize, b: usize) -> usize
-    ensures { result ≤ a }
-{
-    if a < b { a } else { b }
-}
+const EXAMPLE: &[u8] = b"0b1a380101256859\n0b1a38010125685a\nxyz";
 
-fn write(rt: &(impl Print + Eprint), bytes: &[u8]) -> bool {
-    stdio::write(rt, b"piecewise", bytes)
-}
-
-// The whole input in pieces of `size` bytes, or of fewer where the output has no room for their answers. Answers whether all was written.
-fn run(rt: &(impl Print + Eprint), input: &[u8], size: usize, output: &mut [u8]) -> bool {
+// The whole input in pieces of `size` bytes, or of fewer where the output has no room for their answers.
+fn run(rt: &impl Print, input: &[u8], size: usize, output: &mut [u8]) -> Result<(), Failure> {
     let mut state = Unfinished::new();
-    let mut at = 0;
-    while at < input.len() {
-        let n = least(input.len() - at, size);
-        let end = at + n;
-        let done = judging::judge_piece(state, &input[at..end], output);
-        let written = done.written;
-        let consumed = done.consumed;
-        let next = done.state;
-        if !write(rt, &output[..written]) {
-            return false;
+    let mut rest = input;
+    while !rest.is_empty() {
+        let piece = &rest[..size.min(rest.len())];
+        let done = judging::judge_piece(state, piece, output);
+        stdio::write_all(rt, &output[..done.written])?;
+        if done.consumed == 0 {
+            return Ok(());
         }
-        if consumed == 0 {
-            return true;
-        }
-        state = next;
-        at += consumed;
+        state = done.state;
+        rest = &rest[done.consumed..];
     }
-    let last = judging::finish(state);
-    let bytes = last.bytes;
-    let count = last.count;
-    write(rt, &bytes[..count])
+    if let Some(answer) = judging::finish(state) {
+        stdio::write_all(rt, &answer)?;
+    }
+    Ok(())
 }
 
-fn main(rt: HostRuntime) {
-    let example = b"0b1a380101256859\n0b1a38010125685a\nxyz";
+fn run_all(rt: &impl Print) -> Result<(), Failure> {
     let mut small = [0u8; 3];
     let mut middle = [0u8; 16];
     let mut large = [0u8; 128];
     for size in 1..40 {
-        if !run(&rt, example, size, &mut small) {
-            return;
-        }
-        if !run(&rt, example, size, &mut middle) {
-            return;
-        }
-        if !run(&rt, example, size, &mut large) {
-            return;
-        }
+        run(rt, EXAMPLE, size, &mut small)?;
+        run(rt, EXAMPLE, size, &mut middle)?;
+        run(rt, EXAMPLE, size, &mut large)?;
     }
-    run(&rt, b"", 1, &mut large);
+    run(rt, b"", 1, &mut large)
+}
+
+fn main(rt: HostRuntime) {
+    stdio::end(&rt, "piecewise", run_all(&rt));
 }

@@ -1,8 +1,6 @@
--- Whether every write so far succeeded.
-use Rattle.std.specs.Prelude.{Bool, true, false}
-use Rattle.printing.specs.declared.Sink.{Sink}
-use Rattle.printing.specs.declared.Sink.TheVariants.{Waiting, Failed}
+-- Whether every write so far succeeded, by how many bytes wait.
+use Rattle.std.specs.Prelude.{Bool, true, false, ℕ, Option, None, Some}
 
-abbrev pub good : Sink → Bool
-good (Waiting n) = true
-good Failed = false
+abbrev pub good : Option ℕ → Bool
+good (Some n) = true
+good None = false

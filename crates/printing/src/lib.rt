@@ -1,113 +1,106 @@
-// Bytes and numbers for standard output, gathered in a lent buffer, which is written when it is full and by `flush`.
-// What is written no contract here says, so the promises only limit the results: nothing follows a write that failed.
+// Standard output by way of a lent buffer, which is written when it is full and by `flush`.
+// What reaches standard output no contract here says: the promises limit the results, so that nothing follows a write that failed. Only `write_numbers`
+// says its bytes.
 #![tactic(auto)]
 
-ghost use Rattle.std.specs.Prelude.{◌≡◌, false, true};
+ghost use Rattle.std.specs.Prelude.{◌≡◌, ◌≤◌, Some, IfErr, IfOk, IsErr, IsOk, OnOk, OnErr, length, false};
+ghost use Rattle.std.specs.Io.{WritesAtMost};
+ghost use Rattle.std.specs.Option.{ForSome};
+ghost use Rattle.std.specs.Io.KnownBytes.{Appends, Keeps, WriteAppends};
+ghost use Rattle.std.specs.IoError.{error_kind};
 ghost use Rattle.printing.specs.Good.{good};
+ghost use Rattle.printing.specs.Spaced.{spaced};
 
-// How many bytes wait at the front of the buffer; or a write failed, and nothing more is written.
-#[derive(Clone, Copy)]
-pub enum Sink {
-    Waiting(usize),
-    Failed,
+use std::io;
+use std::io::{ErrorKind, Write};
+
+// Not std's BufWriter, which allocates its buffer: memory is fixed here.
+#[derive(Drop)]
+pub struct Output<'a, P: Print> {
+    rt: &'a P,
+    buffer: &'a mut [u8],
+    // How many bytes wait at the front of the buffer; none once a write failed, and nothing more is written.
+    waiting: Option<usize>,
+    ghost fits: { ForSome waiting (λ n. n ≤ length buffer.now) },
 }
 
-pub fn start() -> Sink
-    ensures { result ≡ Sink.Waiting 0 }
+// Not `Interrupted`, which std's `write_all` would try again.
+fn failure() -> io::Error
+    ensures { error_kind result ≡ ErrorKind.Other }
 {
-    Sink::Waiting(0)
+    io::Error::other("cannot write standard output")
 }
 
-pub fn is_good(sink: Sink) -> bool
-    ensures { result ≡ good sink }
-{
-    match sink {
-        Sink::Waiting(_) => true,
-        Sink::Failed => false,
-    }
-}
-
-pub fn flush(rt: &impl Print, sink: Sink, out: &[u8]) -> Sink
-    ensures after { good sink ≡ false → good result ≡ false }
-    ensures empty { good result ≡ true → result ≡ Sink.Waiting 0 }
-{
-    let Sink::Waiting(n) = sink else {
-        return Sink::Failed;
-    };
-    if n <= out.len() {
-        if stdio::write_all(rt, &out[..n]) {
-            return Sink::Waiting(0);
+impl<'a, P: Print> Output<'a, P> {
+    pub fn new(rt: &'a P, buffer: &'a mut [u8]) -> Output<'a, P>
+        ensures { result.waiting ≡ Some 0 }
+    {
+        Output {
+            rt,
+            buffer,
+            waiting: Some(0),
         }
     }
-    Sink::Failed
 }
 
-// The end of the output: whether all was written, and if not, it is said.
-pub fn end(rt: &impl Eprint, program: &[u8], sink: Sink) -> bool
-    ensures { result ≡ good sink }
-{
-    if is_good(sink) {
-        return true;
+impl<P: Print> Write for Output<'_, P> {
+    fn write(&mut self, bytes: &[u8]) -> io::Result<usize>
+        ensures bound { WritesAtMost result bytes.now }
+        ensures bytes { WriteAppends None None result bytes.now }
+        ensures progress { IfOk result (λ n. n ≡ 0 → length bytes.now ≡ 0) }
+        ensures after { good self.old.waiting ≡ false → IsErr result }
+        ensures failed { OnErr result (good self.new.waiting ≡ false) }
+        ensures not_retried { IfErr result (λ why. error_kind why ≡ ErrorKind.Other) }
+    {
+        if self.waiting == Some(self.buffer.len()) {
+            self.flush()?;
+        }
+        let before = self.waiting.ok_or_else(failure)?;
+        let taken = bytes.len().min(self.buffer.len() - before);
+        if taken == 0 && !bytes.is_empty() {
+            self.waiting = None;
+            return Err(failure());
+        }
+        self.buffer[before..before + taken].copy_from_slice(&bytes[..taken]);
+        self.waiting = Some(before + taken);
+        Ok(taken)
     }
-    stdio::fail(rt, program, b"write", b"standard output")
-}
 
-pub fn put(rt: &impl Print, sink: Sink, byte: u8, out: &mut [u8]) -> Sink
-    ensures { good sink ≡ false → good result ≡ false }
-{
-    let Sink::Waiting(n) = with_room(rt, sink, out) else {
-        return Sink::Failed;
-    };
-    if n < out.len() {
-        out[n] = byte;
-        return Sink::Waiting(n + 1);
+    fn flush(&mut self) -> io::Result<()>
+        ensures bytes { Keeps None None }
+        ensures after { good self.old.waiting ≡ false → IsErr result }
+        ensures failed { OnErr result (good self.new.waiting ≡ false) }
+        ensures empty { OnOk result (self.new.waiting ≡ Some 0) }
+        ensures not_retried { IfErr result (λ why. error_kind why ≡ ErrorKind.Other) }
+    {
+        let waiting = self.waiting.take().ok_or_else(failure)?;
+        stdio::write_all(self.rt, &self.buffer[..waiting]).map_err(|_| failure())?;
+        self.waiting = Some(0);
+        Ok(())
     }
-    Sink::Failed
-}
 
-fn with_room(rt: &impl Print, sink: Sink, out: &[u8]) -> Sink
-    ensures { good sink ≡ false → good result ≡ false }
-{
-    match sink {
-        Sink::Waiting(n) => if n < out.len() {
-            sink
-        } else {
-            flush(rt, sink, out)
-        },
-        Sink::Failed => Sink::Failed,
+    fn write_all(&mut self, bytes: &[u8]) -> io::Result<()>
+        ensures bytes { OnOk result (Appends None None bytes.now) }
+        ensures after { good self.old.waiting ≡ false → good self.new.waiting ≡ false }
+        ensures nothing { length bytes.now ≡ 0 → IsOk result × (self.new.waiting ≡ self.old.waiting) }
+        ensures failed { OnErr result (good self.new.waiting ≡ false) }
+        ensures not_retried { IfErr result (λ why. error_kind why ≡ ErrorKind.Other) }
+    {
+        let mut rest = bytes;
+        while !rest.is_empty() {
+            let n = self.write(rest)?;
+            rest = &rest[n..];
+        }
+        Ok(())
     }
-}
-
-pub fn put_all(rt: &impl Print, start: Sink, bytes: &[u8], out: &mut [u8]) -> Sink
-    ensures { good start ≡ false → good result ≡ false }
-{
-    let mut sink = start;
-    let mut k: usize = 0;
-    while k < bytes.len() {
-        sink = put(rt, sink, bytes[k], out);
-        k += 1;
-    }
-    sink
-}
-
-pub fn put_number(rt: &impl Print, sink: Sink, n: u64, out: &mut [u8]) -> Sink
-    ensures { good sink ≡ false → good result ≡ false }
-{
-    let mut text = [0u8; 20];
-    let k = decimal::write(n, &mut text);
-    put_all(rt, sink, &text[..k], out)
 }
 
 // The numbers, with a space before each.
-pub fn put_numbers(rt: &impl Print, start: Sink, numbers: &[u64], out: &mut [u8]) -> Sink
-    ensures { good start ≡ false → good result ≡ false }
+pub fn write_numbers<W: Write>(out: &mut W, numbers: &[u64]) -> io::Result<()>
+    ensures { OnOk result (Appends (W.contents out.old) (W.contents out.new) (spaced numbers.now)) }
 {
-    let mut sink = start;
-    let mut k: usize = 0;
-    while k < numbers.len() {
-        sink = put(rt, sink, b' ', out);
-        sink = put_number(rt, sink, numbers[k], out);
-        k += 1;
+    for number in numbers {
+        write!(out, " {number}")?;
     }
-    sink
+    Ok(())
 }

@@ -1,9 +1,10 @@
 -- The number of each refusal, as the table of docs/RULES.md, "Answer numbers", lists it. An answer that is no refusal has the number 0.
-use Rattle.std.specs.Prelude.{◌≡◌, ℕ}
+use Rattle.std.specs.Prelude.{◌≡◌, ◌≢◌, ℕ, Result, MatchResult}
 use Rattle.refusals.specs.declared.Refusal.{Refusal}
 use Rattle.refusals.specs.declared.Refusal.TheVariants.{UnknownCalendar, YearOutOfRange, NoSuchMonth, NoSuchDay, DayOutOfRange}
 use Rattle.refusals.specs.declared.Refusal.TheVariants.{CodeOutOfLimits, NoLine, MalformedFrame, WrongDay, LineOutOfLimits, BufferTooShort}
 use Rattle.refusals.specs.declared.Refusal.TheVariants.{WrongWeekday, CalendarEnded}
+use Rattle.refusals.specs.declared.UnknownNumber.{UnknownNumber}
 
 abbrev pub number_of : Refusal → ℕ
 number_of UnknownCalendar = 1
@@ -23,3 +24,7 @@ number_of CalendarEnded = 17
 -- an answer number that is a refusal's
 abbrev pub Refused : ℕ → Type 0
 Refused number = number ≡ 0 → ⊥
+
+-- the refusal that has the number, or the number itself where none has it
+abbrev pub Reads : ℕ → Result Refusal UnknownNumber → Type 0
+Reads number r = MatchResult r (λ why. number_of why ≡ number) (λ e. (e.0 ≡ number) × ((why : Refusal) → number_of why ≢ number))

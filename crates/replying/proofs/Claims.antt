@@ -11,13 +11,13 @@ use lib.Dec.{ltb, eqb}
 use lib.ListN.{length, take, get_or, get_or-eq_default}
 use lib.Seq.{take_all, length-take-le}
 use borrow.Author.Tests.{ltb-true, ltb-false, eqb-true, eq-eqb}
+use Rattle.std.specs.Prelude.{Some, None}
 use Rattle.hex_digits.specs.Digits.{sixteen_digits, written_in}
 use Rattle.streaming.specs.Lines.{newline}
 use Rattle.streaming.proofs.Pieces.{Reads}
 use Rattle.verdicts.specs.Verdict.{verdict_of}
 use Rattle.verdicts.proofs.Verdicts.{other_length}
 use Rattle.carrying.specs.Kept.{most}
-use Rattle.replying.specs.declared.Line.TheVariants.{Frame, Other}
 use Rattle.replying.specs.Sheet.{two_digits, judging}
 use Rattle.replying.specs.First.{first_line}
 
@@ -48,11 +48,11 @@ pub record Begins (s : List ℕ) (v : ℕ) : Type 0 where
   pub ends : get_or s 16 0 ≡ newline
   pub verdict : v ≡ verdict_of (take 16 s)
 
-pub frame_first : (s : List ℕ) (v : ℕ) → (Frame v ≡ first_line s) ↔ Begins s v
+pub frame_first : (s : List ℕ) (v : ℕ) → (Some v ≡ first_line s) ↔ Begins s v
 unfolding first_line
 frame_first s v = (
   there (sixteen_digits (take 16 s)) refl (eqb (get_or s 16 0) newline) refl,
-  λ b. rw (b.digits, eq-eqb (get_or s 16 0) newline b.ends) (ap Frame b.verdict),
+  λ b. rw (b.digits, eq-eqb (get_or s 16 0) newline b.ends) (ap Some b.verdict),
 )
   where
     within : get_or s 16 0 ≡ newline → Dec (16 < length s) → 16 < length s
@@ -60,8 +60,8 @@ frame_first s v = (
     within e (no h) = absurd (omega (arith, get_or-eq_default s 0 {n = 16} (omega arith)))
 
     there : (d : Bool) → sixteen_digits (take 16 s) ≡ d → (e : Bool) → eqb (get_or s 16 0) newline ≡ e
-        → Frame v ≡ cond (d && e) (Frame (verdict_of (take 16 s))) Other → Begins s v
+        → Some v ≡ cond (d && e) (Some (verdict_of (take 16 s))) None → Begins s v
     there true h true k e =
         let l = eqb-true (get_or s 16 0) newline k in record { digits = h; within = within l (dec_lt 16 (length s)); ends = l; verdict = cc }
-    there true h false k e = let z : ◌≡◌ {A = ℕ} 0 1 = cc in absurd (omega arith)
-    there false h x k e = let z : ◌≡◌ {A = ℕ} 0 1 = cc in absurd (omega arith)
+    there true h false k e = cc
+    there false h x k e = cc

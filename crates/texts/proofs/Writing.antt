@@ -1,5 +1,5 @@
 -- A text written after another is the two together, written at once: so is every line built, part by part.
-use mathlib.Core.Path.{◌≡◌, refl, sym, ap, ◌∙◌, subst}
+use mathlib.Core.Path.{◌≡◌, refl, sym, ap, ◌∙◌}
 use mathlib.Core.List.{List, [], ◌∷◌, ◌++◌, append-nil, append_assoc}
 use Prim.Native.Nat.{ℕ, zero, suc, ◌+◌, ◌-◌, ◌≤◌, ◌<◌, min}
 use native.Mathlib.Omega.{arith}
@@ -127,22 +127,6 @@ then {at} {text} {before} w {more} v = record {
   end_of = rw (w.whole, w.end_of) at v.end_of ∙ ap length (kept_more at text before more);
 }
 
--- the same where the two are said together in another way
-pub so_far : {at : ℕ} {text before between : List ℕ} {end : ℕ} → Writes at text before between end
-    → (more all : List ℕ) → all ≡ text ++ more
-    → {after : List ℕ} {last : ℕ} → Writes end more between after last
-    → Writes at all before after last
-so_far {at} {text} {before} w more all e {after} {last} v = subst (λ (x : List ℕ). Writes at x before after last) (sym e) (then w v)
-
 -- the next byte of a text that is written byte by byte
 pub next_byte : (text : List ℕ) (k : ℕ) → k < length text → take (k + 1) text ≡ take k text ++ get_or text k 0 ∷ []
 next_byte text k h = ap (λ (i : ℕ). take i text) (add-one k) ∙ take-suc text k 0 h
-
-pub keeps_length : {at : ℕ} {text before after : List ℕ} {end : ℕ} → Writes at text before after end → length after ≡ length before
-keeps_length {at} {text} {before} w = ap length w.whole ∙ same_length at text before
-
--- the end lies within the buffer: what a proof of `&line[..end]` looks for
-pub counts : {at : ℕ} {text before after : List ℕ} {end : ℕ} → Writes at text before after end → (end ≤ length after) × (end ≡ length (take end after))
-counts {at} {text} {before} {after} {end} w =
-    let h : end ≤ length after = omega (arith, w.end_of, keeps_length w, kept_short at text before) in
-    (h, sym (length-take-le end after h))

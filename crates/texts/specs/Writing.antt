@@ -1,5 +1,5 @@
 -- Text written into a lent buffer: after its first bytes, as much as there is room for.
-use Rattle.std.specs.Prelude.{◌≡◌, List, ◌++◌, ℕ, length, take, drop}
+use Rattle.std.specs.Prelude.{◌≡◌, List, ◌++◌, ℕ, ◌≤◌, length, take, drop}
 
 -- what the front of the buffer holds when a text follows its first `at` bytes
 unfoldable pub kept : ℕ → List ℕ → List ℕ → List ℕ
@@ -13,3 +13,7 @@ written at text line = kept at text line ++ drop (length (kept at text line)) li
 pub record Writes (at : ℕ) (text before after : List ℕ) (end : ℕ) : Type 0 where
   pub whole : after ≡ written at text before
   pub end_of : end ≡ length (kept at text before)
+
+-- n counts bytes at the front of a buffer. The second part follows from the first; a proof of `&buffer[..n]` looks for both.
+abbrev pub Counts : ℕ → List ℕ → Type 0
+Counts n buffer = (n ≤ length buffer) × (n ≡ length (take n buffer))

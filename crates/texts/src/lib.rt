@@ -1,71 +1,72 @@
-// Lines of text, built part by part in a lent buffer. A function is told where the text so far ends, and answers where it ends with the part that it adds;
-// a part that has no room is cut.
+// Lines of text, built part by part in a lent buffer; a part that has no room is cut.
 // `proofs/Claims.antt` is the page to read first.
 #![tactic(auto)]
 
-ghost use Rattle.std.specs.Prelude.{◌-◌, min, ◌≡◌, [], ◌∷◌};
-ghost use Rattle.texts.specs.Writing.{Writes};
-ghost use Rattle.texts.specs.Columns.{blanks, right_in, left_in};
+ghost use Rattle.std.specs.Prelude.{◌-◌, [], ◌∷◌};
 
-pub fn append_byte(at: usize, byte: u8, line: &mut [u8]) -> usize
-    ensures { Writes at (byte ∷ []) line.old line.new result }
-{
-    if at < line.len() {
-        line[at] = byte;
-        return at + 1;
+// A line so far, in a lent buffer whose other bytes stay as they were.
+#[derive(Drop)]
+pub struct Line<'a> {
+    buffer: &'a mut [u8],
+    // Where the line ends. A place behind the buffer counts as the buffer's end.
+    pub end: usize,
+}
+
+impl<'a> Line<'a> {
+    ghost use Rattle.texts.specs.Lines.{Begins, Adds};
+    ghost use Rattle.texts.specs.Columns.{blanks, right_in, left_in};
+
+    // A line of no byte.
+    pub fn new(buffer: &'a mut [u8]) -> Line<'a>
+        ensures { Begins buffer.entry result }
+    {
+        Line { buffer, end: 0 }
     }
-    line.len()
-}
 
-fn least(a: usize, b: usize) -> usize
-    ensures { result ≡ min a b }
-{
-    if a < b { a } else { b }
-}
-
-pub fn append(at: usize, text: &[u8], line: &mut [u8]) -> usize
-    ensures { Writes at text.now line.old line.new result }
-{
-    let mut end = least(at, line.len());
-    let mut k: usize = 0;
-    while k < text.len() {
-        end = append_byte(end, text[k], line);
-        k += 1;
+    pub fn push(&mut self, byte: u8)
+        ensures { Adds (byte ∷ []) self.old self.new }
+    {
+        if self.end < self.buffer.len() {
+            self.buffer[self.end] = byte;
+            self.end += 1;
+        } else {
+            self.end = self.buffer.len();
+        }
     }
-    end
-}
 
-fn append_blanks(at: usize, count: usize, line: &mut [u8]) -> usize
-    ensures { Writes at (blanks count) line.old line.new result }
-{
-    let mut end = least(at, line.len());
-    let mut k: usize = 0;
-    while k < count {
-        end = append_byte(end, b' ', line);
-        k += 1;
+    pub fn push_text(&mut self, text: &[u8])
+        ensures { Adds text.now self.old self.new }
+    {
+        self.end = self.end.min(self.buffer.len());
+        for &byte in text {
+            self.push(byte);
+        }
     }
-    end
-}
 
-// How much of a column is left.
-fn left(width: usize, used: usize) -> usize
-    ensures { result ≡ width - used }
-{
-    if used < width { width - used } else { 0 }
-}
+    // What is left of a column of which so many bytes are used.
+    fn push_blanks(&mut self, width: usize, used: usize)
+        ensures { Adds (blanks (width - used)) self.old self.new }
+    {
+        self.end = self.end.min(self.buffer.len());
+        for _ in 0..width.saturating_sub(used) {
+            self.push(b' ');
+        }
+    }
 
-// The text in a column, at its right.
-pub fn append_right(at: usize, width: usize, text: &[u8], line: &mut [u8]) -> usize
-    ensures { Writes at (right_in width text.now) line.old line.new result }
-{
-    let begin = append_blanks(at, left(width, text.len()), line);
-    append(begin, text, line)
-}
+    // The text in a column, at its right.
+    pub fn push_right(&mut self, width: usize, text: &[u8])
+        ensures { Adds (right_in width text.now) self.old self.new }
+    {
+        self.push_blanks(width, text.len());
+        self.push_text(text);
+    }
 
-// The text in a column, at its left.
-pub fn append_left(at: usize, width: usize, text: &[u8], line: &mut [u8]) -> usize
-    ensures { Writes at (left_in width text.now) line.old line.new result }
-{
-    let end = append(at, text, line);
-    append_blanks(end, left(width, text.len()), line)
+    // The text in a column, at its left.
+    pub fn push_left(&mut self, width: usize, text: &[u8])
+        ensures { Adds (left_in width text.now) self.old self.new }
+    {
+        let used = text.len();
+        self.push_text(text);
+        self.push_blanks(width, used);
+    }
 }

@@ -1,9 +1,8 @@
 -- The rules' answer number of each case of the answer.
-use Rattle.std.specs.Prelude.{ℕ}
+use Rattle.std.specs.Prelude.{Result, Ok, Err, ℕ}
 use Rattle.refusals.specs.Number.{number_of}
-use Rattle.unfolding.specs.declared.Unfolded.{Unfolded}
-use Rattle.unfolding.specs.declared.Unfolded.TheVariants.{Done, Refused}
+use Rattle.refusals.specs.declared.Refusal.{Refusal}
 
-abbrev pub unfold_paper : Unfolded → ℕ
-unfold_paper Done = 0
-unfold_paper (Refused why) = number_of why
+abbrev pub unfold_paper : Result (Unit {0}) Refusal → ℕ
+unfold_paper (Ok _) = 0
+unfold_paper (Err why) = number_of why

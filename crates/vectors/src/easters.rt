@@ -1,35 +1,29 @@
 // Compares an Easter Sunday: the rule's date, and that date with its weekday and its day number in both directions.
-use crate::rows::Line;
-use crate::{dates, rows};
+use crate::dates;
+use crate::rows::Row;
+use crate::tally::Finding;
 use calendars::Date;
-use easter::EasterDate;
+use easter::MonthDay;
 
 const SUNDAY: u64 = 7;
 
-pub(crate) fn agrees_with(row: Line) -> bool {
-    let n = row.numbers;
-    agrees(n[0], rows::date(row, SUNDAY), n[4])
-}
-
-fn agrees(calendar: u64, date: Date, day: u64) -> bool {
+pub(crate) fn compare(row: Row) -> Finding {
+    let Some((date, number)) = row.dated() else {
+        return Finding::Differs;
+    };
+    let feast = MonthDay {
+        month: date.month,
+        day: date.day,
+    };
+    let sunday = Date {
+        weekday: SUNDAY,
+        ..date
+    };
     // Monday has remainder 0.
-    if day % 7 != 6 {
-        return false;
-    }
-    if is_easter(easter::easter(calendar, date.year), date) {
-        return dates::agrees(calendar, date, day);
-    }
-    false
-}
-
-fn is_easter(answer: EasterDate, date: Date) -> bool {
-    match answer {
-        EasterDate::On(found) => {
-            if found.month != date.month {
-                return false;
-            }
-            found.day == date.day
-        }
-        EasterDate::Refused(_) => false,
-    }
+    let is_sunday = number % 7 == 6;
+    Finding::agrees_if(
+        is_sunday
+            && easter::easter(row.calendar, date.year) == Ok(feast)
+            && dates::agrees(row.calendar, sunday, number),
+    )
 }

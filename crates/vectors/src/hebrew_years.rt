@@ -1,38 +1,28 @@
 // Compares the length of a Hebrew year with the sum of its positions and, where the next year begins within the day numbers, with the days from its
 // first day to the next year's.
-use crate::rows::Line;
+use crate::rows::Row;
 use crate::tally::Finding;
-use crate::{rows, tally};
-use calendars::{Date, Day};
+use calendars::Date;
 use refusals::Refusal;
 
-pub(crate) fn compare_with(row: Line) -> Finding {
-    let n = row.numbers;
-    compare(n[0], rows::unsigned_year(row), n[2])
-}
-
-fn compare(calendar: u64, year: u64, length: u64) -> Finding {
-    if 20000 <= year {
+pub(crate) fn compare(row: Row) -> Finding {
+    let &[length] = row.rest else {
+        return Finding::Differs;
+    };
+    let calendar = row.calendar;
+    let year = row.year;
+    if 20000 <= year || days_of_positions(calendar, year) != Ok(length) {
         return Finding::Differs;
     }
-    if !positions_sum_to(calendar, year as i64, length) {
-        return Finding::Differs;
-    }
-    match first_day(calendar, (year + 1) as i64) {
-        Day::Number(next) => tally::agrees_if(begins_before(calendar, year as i64, length, next)),
-        Day::Refused(why) => beyond(why),
-    }
-}
-
-// Above year 13,759 the next year's first day is past the last day number; no other refusal is right.
-fn beyond(why: Refusal) -> Finding {
-    match why {
-        Refusal::DayOutOfRange => Finding::AgreesInPart,
+    match (first_day(calendar, year), first_day(calendar, year + 1)) {
+        (Ok(first), Ok(next)) => Finding::agrees_if(next.checked_sub(first) == Some(length)),
+        // Above year 13,759 the next year's first day is past the last day number; no other refusal is right.
+        (_, Err(Refusal::DayOutOfRange)) => Finding::AgreesInPart,
         _ => Finding::Differs,
     }
 }
 
-fn first_day(calendar: u64, year: i64) -> Day {
+fn first_day(calendar: u64, year: i64) -> Result<u64, Refusal> {
     calendars::date_to_day(
         calendar,
         Date {
@@ -44,28 +34,11 @@ fn first_day(calendar: u64, year: i64) -> Day {
     )
 }
 
-// Whether the year begins that many days before the next one.
-fn begins_before(calendar: u64, year: i64, length: u64, next: u64) -> bool {
-    match first_day(calendar, year) {
-        Day::Number(first) => {
-            if next < first {
-                return false;
-            }
-            next - first == length
-        }
-        Day::Refused(_) => false,
+// The sum of the positions' lengths, if none is refused. Thirteen are far from wrapping.
+fn days_of_positions(calendar: u64, year: i64) -> Result<u64, Refusal> {
+    let mut sum: u64 = 0;
+    for position in 1..14 {
+        sum = sum.wrapping_add(calendars::position_of(calendar, year, position)?.days());
     }
-}
-
-// Whether no position is refused, and their lengths sum up to the year's. Thirteen are far from wrapping.
-fn positions_sum_to(calendar: u64, year: i64, length: u64) -> bool {
-    let mut sum = 0;
-    for position in 1..14u64 {
-        let answer = calendars::position_of(calendar, year, position);
-        if calendars::is_refused(answer) {
-            return false;
-        }
-        sum = std::num::wrapping_add_u64(sum, calendars::days_of(answer));
-    }
-    sum == length
+    Ok(sum)
 }

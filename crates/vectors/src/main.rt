@@ -5,13 +5,15 @@ mod dates;
 mod easters;
 mod files;
 mod hebrew_years;
-mod output;
 mod rows;
 mod tables;
 mod tally;
 mod weekday_rows;
 
+use printing::Output;
+
 fn main(rt: HostRuntime) {
-    let mut good = true;
-    files::compare_all(&rt, &mut good);
+    let mut buffer = [0u8; 4096];
+    let mut out = Output::new(&rt, &mut buffer);
+    stdio::end(&rt, "vectors", files::compare_all(&rt, &mut out));
 }

@@ -3,8 +3,8 @@
 use calendars::Date;
 
 // What the next byte of a line belongs to.
-#[derive(Clone, Copy)]
-pub enum Place {
+#[derive(Clone, Copy, Debug, PartialEq, Eq)]
+enum Place {
     // The first byte of a cell, or the first digit after a minus sign.
     Cell,
     // The rest of a number.
@@ -16,160 +16,110 @@ pub enum Place {
 }
 
 // A line as far as it was read: its numbers, how many of them are complete, and whether the year is negative.
-#[derive(Clone, Copy)]
-pub struct Line {
-    pub numbers: [u64; 5],
-    pub count: usize,
-    pub is_negative: bool,
-    pub place: Place,
+// (The count stands beside the array, since the number at the count is the one that is being read.)
+#[derive(Clone, Copy, Debug, PartialEq, Eq)]
+pub(crate) struct Line {
+    numbers: [u64; 5],
+    count: usize,
+    is_negative: bool,
+    place: Place,
 }
 
-pub(crate) fn empty() -> Line {
-    Line {
-        numbers: [0; 5],
-        count: 0,
-        is_negative: false,
-        place: Place::Cell,
+// A row: a calendar, a year, and the numbers after them.
+#[derive(Clone, Copy, Debug, PartialEq, Eq)]
+pub(crate) struct Row<'a> {
+    pub(crate) calendar: u64,
+    pub(crate) year: i64,
+    pub(crate) rest: &'a [u64],
+}
+
+impl Row<'_> {
+    // The date of a row that has month and day, and the one number after them.
+    pub(crate) fn dated(self) -> Option<(Date, u64)> {
+        let &[month, day, number] = self.rest else {
+            return None;
+        };
+        let date = Date {
+            year: self.year,
+            month,
+            day,
+            weekday: 0,
+        };
+        Some((date, number))
     }
 }
 
-pub(crate) fn take_byte(line: Line, byte: u8) -> Line {
-    let place = line.place;
-    match place {
-        Place::Cell => begin_cell(line, byte),
-        Place::Number => in_number(line, byte),
-        _ => line,
-    }
-}
-
-fn moved(line: Line, place: Place) -> Line {
-    let numbers = line.numbers;
-    Line {
-        numbers,
-        count: line.count,
-        is_negative: line.is_negative,
-        place,
-    }
-}
-
-fn begin_cell(line: Line, byte: u8) -> Line {
-    match byte {
-        b'0'..=b'9' => digit(line, byte),
-        b'-' => minus(line),
-        b'#' => {
-            if line.count == 0 {
-                moved(line, Place::Comment)
-            } else {
-                moved(line, Place::Source)
-            }
-        }
-        _ => moved(line, Place::Source),
-    }
-}
-
-fn minus(line: Line) -> Line {
-    if line.count == 1 {
-        if !line.is_negative {
-            let numbers = line.numbers;
-            return Line {
-                numbers,
-                count: 1,
-                is_negative: true,
-                place: Place::Cell,
-            };
-        }
-    }
-    moved(line, Place::Malformed)
-}
-
-fn in_number(line: Line, byte: u8) -> Line {
-    match byte {
-        b'0'..=b'9' => digit(line, byte),
-        b'\t' => end_number(line),
-        _ => moved(line, Place::Malformed),
-    }
-}
-
-fn digit(line: Line, byte: u8) -> Line {
-    let at = line.count;
-    let mut numbers = line.numbers;
-    if at < 5 {
-        let n = numbers[at];
-        if n < 1000000 {
-            numbers[at] = n * 10 + (byte as u64) % 16;
-            return Line {
-                numbers,
-                count: at,
-                is_negative: line.is_negative,
-                place: Place::Number,
-            };
-        }
-    }
-    moved(line, Place::Malformed)
-}
-
-fn end_number(line: Line) -> Line {
-    let at = line.count;
-    if at < 5 {
-        let numbers = line.numbers;
-        return Line {
-            numbers,
-            count: at + 1,
-            is_negative: line.is_negative,
+impl Line {
+    pub(crate) fn new() -> Line {
+        Line {
+            numbers: [0; 5],
+            count: 0,
+            is_negative: false,
             place: Place::Cell,
+        }
+    }
+
+    // Goes on with a byte that is no newline.
+    pub(crate) fn take(&mut self, byte: u8) {
+        self.place = match (self.place, byte) {
+            (Place::Cell | Place::Number, b'0'..=b'9') => self.digit(byte - b'0'),
+            (Place::Cell, b'-') => self.minus(),
+            (Place::Cell, b'#') if self.count == 0 => Place::Comment,
+            (Place::Cell, _) => Place::Source,
+            (Place::Number, b'\t') => self.end_number(),
+            (Place::Number, _) => Place::Malformed,
+            (place, _) => place,
         };
     }
-    moved(line, Place::Malformed)
-}
 
-// Whether the line is a row of that many numbers.
-pub(crate) fn has_numbers(line: Line, count: usize) -> bool {
-    let place = line.place;
-    match place {
-        Place::Source => line.count == count,
-        _ => false,
+    // Not `decimal::Number`, which takes any number of digits: a number of a table has seven at most, and a longer one is malformed.
+    fn digit(&mut self, digit: u8) -> Place {
+        match self.numbers.get_mut(self.count) {
+            Some(n) if *n < 1000000 => {
+                *n = *n * 10 + u64::from(digit);
+                Place::Number
+            }
+            _ => Place::Malformed,
+        }
     }
-}
 
-// The year of a row. A number that was read has at most 7 digits; the largest year stands for any other, as no answer is about it.
-pub(crate) fn year(line: Line) -> i64 {
-    let numbers = line.numbers;
-    let n = numbers[1];
-    if 10000000 <= n {
-        return i64::MAX;
+    fn minus(&mut self) -> Place {
+        if self.count == 1 && !self.is_negative {
+            self.is_negative = true;
+            return Place::Cell;
+        }
+        Place::Malformed
     }
-    if line.is_negative {
-        0 - (n as i64)
-    } else {
-        n as i64
-    }
-}
 
-// The year where it cannot be negative, and the largest number for one that is.
-pub(crate) fn unsigned_year(line: Line) -> u64 {
-    let numbers = line.numbers;
-    if line.is_negative {
-        u64::MAX
-    } else {
-        numbers[1]
+    fn end_number(&mut self) -> Place {
+        if self.count < self.numbers.len() {
+            self.count += 1;
+            return Place::Cell;
+        }
+        Place::Malformed
     }
-}
 
-pub(crate) fn date(line: Line, weekday: u64) -> Date {
-    let n = line.numbers;
-    Date {
-        year: year(line),
-        month: n[2],
-        day: n[3],
-        weekday,
+    pub(crate) fn is_comment(&self) -> bool {
+        self.place == Place::Comment
     }
-}
 
-// Whether no byte of the line was read.
-pub(crate) fn is_empty(line: Line) -> bool {
-    let place = line.place;
-    match place {
-        Place::Cell => line.count == 0,
-        _ => false,
+    // The row that the line is, if it is one.
+    pub(crate) fn row(&self) -> Option<Row<'_>> {
+        if self.place != Place::Source {
+            return None;
+        }
+        let [calendar, distance, rest @ ..] = self.numbers.get(..self.count)? else {
+            return None;
+        };
+        let distance = i64::try_from(*distance).ok()?;
+        Some(Row {
+            calendar: *calendar,
+            year: if self.is_negative {
+                -distance
+            } else {
+                distance
+            },
+            rest,
+        })
     }
 }

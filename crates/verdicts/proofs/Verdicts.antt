@@ -2,7 +2,7 @@
 use mathlib.Core.Path.{◌≡◌, refl, sym, ap, ◌∙◌}
 use mathlib.Core.List.{List}
 use mathlib.Core.Bool.{Bool, true, false, ◌||◌}
-use mathlib.Core.Option.{Option}
+use mathlib.Core.Option as listed
 use Prim.Native.Nat.{ℕ, ◌-◌, ◌<◌, min}
 use native.Mathlib.Decide.{dec_lt}
 use native.Mathlib.Omega.{arith}
@@ -10,15 +10,20 @@ use lib.IntN.{ℤ, pos, ◌-ℤ◌}
 use lib.ListN.{length}
 use lib.Signed.{lt_z}
 use borrow.Author.Tests.{eq-eqb, ne_eqb, lt-ltb, le-ltb}
+use Rattle.std.specs.Prelude.{Option, Some, None, Result, Ok, Err}
+use Rattle.std.specs.Option.{ok_or}
 use Rattle.refusals.specs.Number.{number_of}
 use Rattle.refusals.specs.declared.Refusal.{Refusal}
+use Rattle.refusals.specs.declared.Refusal.TheVariants.{MalformedFrame}
 use Rattle.refusals.proofs.Claims.{not_zero}
 use Rattle.counting.specs.Answers.{Calendar, last_year, no_day_answer, day_for}
 use Rattle.calendar_rules.specs.Calendars.{calendar}
 use Rattle.calendar_rules.specs.Answers.{of_listed, day_answer, day_answer_with}
 use Rattle.calendar_rules.proofs.Claims.{no_weekday}
 use Rattle.hex_digits.specs.Digits.{sixteen_digits}
-use Rattle.frames.specs.Frame.{fields_of}
+use Rattle.frames.specs.declared.Frame.{Frame}
+use Rattle.frames.specs.Frame.{fields_of, reading_of}
+use Rattle.frames.proofs.Claims.{is_fields, is_malformed}
 use Rattle.verdicts.specs.Verdict.{against, verdict_on, verdict_of}
 
 -- ---- a line that is no frame
@@ -34,6 +39,18 @@ no_frame line h = rw h
 pub frame : (line : List ℕ) → sixteen_digits line ≡ true → verdict_of line ≡ verdict_on (fields_of line)
 unfolding verdict_of
 frame line h = rw h
+
+-- the same by what reading a frame answers, which is refused as malformed where there is none
+pub read_frame : (line : List ℕ) (o : Option Frame) (f : Frame) → o ≡ reading_of line → ◌≡◌ {A = Result Frame Refusal} (Ok f) (ok_or o MalformedFrame)
+    → verdict_on f ≡ verdict_of line
+read_frame line None f e r = cc
+read_frame line (Some g) f e r = let h = is_fields line g e in let same : f ≡ g = cc in ap verdict_on (same ∙ h.1) ∙ sym (frame line h.0)
+
+pub read_none : (line : List ℕ) (o : Option Frame) (why : Refusal) → o ≡ reading_of line → ◌≡◌ {A = Result Frame Refusal} (Err why) (ok_or o MalformedFrame)
+    → number_of why ≡ verdict_of line
+read_none line None why e r =
+    let same : why ≡ MalformedFrame = cc in ap number_of same ∙ sym (no_frame line (is_malformed line e))
+read_none line (Some g) why e r = cc
 
 -- ---- what date to day answers, against the frame's day
 
@@ -59,9 +76,9 @@ late_alike c y z m d h k = go (calendar c)
     or_true true e = refl
     or_true false e = e
 
-    go : (o : Option Calendar) → of_listed o (no_day_answer 1) (λ K. day_for K y m d) ≡ of_listed o (no_day_answer 1) (λ K. day_for K z m d)
-    go Option.none = refl
-    go (Option.some K) = rw (or_true (lt_z y K.first_year) h, or_true (lt_z z K.first_year) k)
+    go : (o : listed.Option Calendar) → of_listed o (no_day_answer 1) (λ K. day_for K y m d) ≡ of_listed o (no_day_answer 1) (λ K. day_for K z m d)
+    go listed.Option.none = refl
+    go (listed.Option.some K) = rw (or_true (lt_z y K.first_year) h, or_true (lt_z z K.first_year) k)
 
 late : (n : ℕ) → 65535 < n → lt_z last_year (pos n -ℤ pos 4712) ≡ true
 late n h = rw (le-ltb n 4712 (omega arith)) (lt-ltb 20000 (n - 4712) (omega arith))

@@ -1,18 +1,17 @@
 -- The verdict on one line of a sheet (docs/RULES.md, "Sheets" and "Answer numbers").
-use Rattle.std.specs.Prelude.{List, cond, ℕ, eqb}
+use Rattle.std.specs.Prelude.{List, Result, Ok, Err, cond, ℕ, eqb}
+use Rattle.refusals.specs.declared.Refusal.{Refusal}
 use Rattle.refusals.specs.Number.{number_of}
 use Rattle.counting.specs.Answers.{DayAnswer}
 use Rattle.calendar_rules.specs.Answers.{day_answer_with}
 use Rattle.hex_digits.specs.Digits.{sixteen_digits}
 use Rattle.frames.specs.declared.Frame.{Frame}
 use Rattle.frames.specs.Frame.{fields_of, year_of}
-use Rattle.verdicts.specs.declared.Verdict.{Verdict}
-use Rattle.verdicts.specs.declared.Verdict.TheVariants.{Right, Refused}
 
--- the answer number of each verdict of the code
-abbrev pub verdict_number : Verdict → ℕ
-verdict_number Right = 0
-verdict_number (Refused why) = number_of why
+-- the answer number of each verdict of the code: a frame is right, or why it is not
+abbrev pub verdict_number : Result (Unit {0}) Refusal → ℕ
+verdict_number (Ok right) = 0
+verdict_number (Err why) = number_of why
 
 -- what date to day answers for the date of a frame, which has no weekday
 abbrev pub answer_for : Frame → DayAnswer

@@ -5,24 +5,17 @@
 ghost use Rattle.std.specs.Prelude.{◌≡◌, min, pos, ◌-ℤ◌};
 ghost use Rattle.verdicts.specs.Verdict.{verdict_number, verdict_on, verdict_of};
 
-use calendars::{Date, Day};
-use frames::{Frame, Reading};
+use calendars::Date;
+use frames::Frame;
 use refusals::Refusal;
 
-// The verdict on a line: its frame is right, or why it is not.
-#[derive(Drop)]
-pub enum Verdict {
-    Right,
-    Refused(Refusal),
-}
-
-// The verdict's answer number.
-pub fn number(v: Verdict) -> u8
-    ensures { result ≡ verdict_number v }
+// The answer number of a verdict: 0 where the line's frame is right, and else why it is not. No `From`: both types are std's.
+pub fn number(verdict: Result<(), Refusal>) -> u8
+    ensures { result ≡ verdict_number verdict }
 {
-    match v {
-        Verdict::Right => 0,
-        Verdict::Refused(why) => refusals::number(why),
+    match verdict {
+        Ok(()) => 0,
+        Err(why) => u8::from(why),
     }
 }
 
@@ -30,40 +23,31 @@ pub fn number(v: Verdict) -> u8
 fn year_of(field: u64) -> i64
     ensures { result ≡ pos (min field 65536) -ℤ pos 4712 }
 {
-    if field < 0x1_0000 {
-        return (field as i64) - 4712;
-    }
-    60824
+    field.min(0x1_0000) as i64 - 4712
 }
 
 // The verdict on a frame with these fields.
-pub fn judge_frame(f: Frame) -> Verdict
-    ensures { verdict_number result ≡ verdict_on f }
+pub fn judge_frame(frame: Frame) -> Result<(), Refusal>
+    ensures { verdict_number result ≡ verdict_on frame }
 {
     let date = Date {
-        year: year_of(f.year),
-        month: f.month,
-        day: f.day,
+        year: year_of(frame.year),
+        month: frame.month,
+        day: frame.day,
         weekday: 0,
     };
-    match calendars::date_to_day(f.calendar, date) {
-        Day::Number(day) => {
-            if day == f.number {
-                Verdict::Right
-            } else {
-                Verdict::Refused(Refusal::WrongDay)
-            }
-        }
-        Day::Refused(why) => Verdict::Refused(why),
+    let day = calendars::date_to_day(frame.calendar, date)?;
+    if day == frame.number {
+        Ok(())
+    } else {
+        Err(Refusal::WrongDay)
     }
 }
 
 // The verdict on a line of any bytes, without its newline.
-pub fn judge_line(line: &[u8]) -> Verdict
+pub fn judge_line(line: &[u8]) -> Result<(), Refusal>
     ensures { verdict_number result ≡ verdict_of line.now }
 {
-    match frames::read(line) {
-        Reading::Fields(f) => judge_frame(f),
-        Reading::Malformed => Verdict::Refused(Refusal::MalformedFrame),
-    }
+    let frame = frames::read(line).ok_or(Refusal::MalformedFrame)?;
+    judge_frame(frame)
 }

@@ -7,14 +7,15 @@ use mathlib.Core.Bool.{true}
 use Prim.Native.Nat.{ℕ, ◌≤◌}
 use Prim.Native.String.{String}
 use lib.ListN.{length}
+use Rattle.std.specs.Prelude.{Some, unwrap_or, is_some}
 use Rattle.basics.specs.Every.{All}
 use Rattle.words.specs.declared.Word.TheVariants.{Letters}
 use Rattle.words.specs.Text.{bytes, lower, lowered, same}
-use Rattle.words.specs.Names.{calendar_names, weekday_names, request_names, number_named, name_of, has_name}
+use Rattle.words.specs.Names.{calendar_names, weekday_names, request_names, number_named, name_beside, name_of, has_name}
 use Rattle.words.specs.Words.{small_letter, all_letters, packed_from, word_of}
 use Rattle.words.specs.Packed.{pushed, spells, number_packed}
 use Rattle.words.proofs.Packing as packing
-use Rattle.words.proofs.Tables.{all_rows, spelled, named, own_number, name_back, name_length}
+use Rattle.words.proofs.Tables.{all_rows, spelled, named, own_number, name_back, name_length, name_or_none, name_where_named}
 
 -- ---- reading
 
@@ -48,14 +49,14 @@ all_spelled s = spelled s "all" refl
 
 -- every name of a table belongs to one number
 abbrev pub OwnNames : List (ℕ × String) → Type 0
-OwnNames table = All (λ (row : ℕ × String). number_named table (bytes row.1) ≡ row.0) table
+OwnNames table = All (λ (row : ℕ × String). number_named table (bytes row.1) ≡ Some row.0) table
 
 -- and the name of a number that has one leads back to it, so that no two numbers share a name
 abbrev pub LeadBack : List (ℕ × String) → Type 0
-LeadBack table = (n : ℕ) → has_name table n ≡ true → number_named table (name_of table n) ≡ n
+LeadBack table = (n : ℕ) → has_name table n ≡ true → number_named table (name_of table n) ≡ Some n
 
 pub no_two : (table : List (ℕ × String)) → LeadBack table → (m n : ℕ) → has_name table m ≡ true → has_name table n ≡ true → name_of table m ≡ name_of table n → m ≡ n
-no_two table back m n h k e = sym (back m h) ∙ ap (number_named table) e ∙ back n k
+no_two table back m n h k e = ap (λ o. unwrap_or o 0) (sym (back m h) ∙ ap (number_named table) e ∙ back n k)
 
 pub calendars_apart : OwnNames calendar_names × LeadBack calendar_names
 unfolding all_rows calendar_names number_named bytes lower lowered same
@@ -68,6 +69,13 @@ weekdays_apart = (own_number weekday_names weekday_names refl, name_back weekday
 pub requests_apart : OwnNames request_names × LeadBack request_names
 unfolding all_rows request_names number_named bytes lower lowered same
 requests_apart = (own_number request_names request_names refl, name_back request_names request_names refl)
+
+-- what stands beside a number is its name, where it has one
+pub beside_where_named : (table : List (ℕ × String)) (n : ℕ) → is_some (name_beside table n) ≡ has_name table n
+beside_where_named table n = sym (name_where_named table n)
+
+pub beside_is_name : (table : List (ℕ × String)) (n : ℕ) → unwrap_or (name_beside table n) [] ≡ name_of table n
+beside_is_name table n = sym (name_or_none table n)
 
 -- no name is longer than its field
 pub calendar_length : (c : ℕ) → length (name_of calendar_names c) ≤ 11

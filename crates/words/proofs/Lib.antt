@@ -1,4 +1,3 @@
 pub mod Claims
 pub mod Packing
 pub mod Tables
-pub mod Loops

@@ -9,15 +9,26 @@ use native.Mathlib.Nat.{add-zero, add-suc, pow-le-pow_right, mul-le-mul_right, m
 use native.Mathlib.Omega.{arith}
 use lib.Pow.{pow-add}
 use lib.Dec.{leb, ltb, eqb}
-use lib.ListN.{length, length-append}
+use native.Mathlib.Numerals.{add-one}
+use lib.ListN.{length, take, get_or, length-append}
+use lib.Seq.{take-suc}
 use borrow.Author.Tests.{ltb-true, lt-ltb, leb-true, le-leb, lt-leb, eqb-true, eq-eqb, ne_eqb}
 use Rattle.basics.proofs.Order.{le_or_lt}
 use Rattle.basics.proofs.Cases.{both, both_hold, fails, same_test}
+use Rattle.words.specs.declared.Word.{Word}
 use Rattle.words.specs.declared.Word.TheVariants.{Letters, Other}
 use Rattle.words.specs.Text.{lower, lowered, same}
 use Rattle.words.specs.Words.{small_letter, letter_of, all_letters, packed_from, packed, word_of}
 use Rattle.words.specs.Packed.{pushed}
-use Rattle.words.specs.Inner.{letter_byte, letters_in}
+
+-- the byte of a letter
+letter_byte : ℕ → ℕ
+letter_byte n = cond (eqb n 27) 45 (96 + n % 32)
+
+-- the letters in the lowest k places of a packed word
+pub letters_in : ℕ → ℕ → List ℕ
+letters_in zero n = []
+letters_in (suc k) n = cond (eqb (n / 2 ^ (5 * k) % 32) 0) [] (letter_byte (n / 2 ^ (5 * k) % 32) ∷ []) ++ letters_in k n
 
 -- ---- tests
 
@@ -61,7 +72,7 @@ letter_most b = go (leb 97 b && leb b 122) refl (eqb b 45)
 
 -- the byte of a letter's number is that letter
 letter_back : (b : ℕ) → 0 < small_letter b → letter_byte (small_letter b) ≡ b
-unfolding small_letter
+unfolding small_letter letter_byte
 letter_back b = go (leb 97 b && leb b 122) refl (eqb b 45) refl
   where
     go : (x : Bool) → (leb 97 b && leb b 122) ≡ x → (y : Bool) → eqb b 45 ≡ y
@@ -200,3 +211,7 @@ read_on s b = go (leb (length s) 12 && all_letters s) refl
         (both (all_letters s) (ltb 0 (letter_of b)) (sym letters ∙ p.1)).0)
         ∙ e)) in
         rw f
+
+-- a byte more of a text
+pub read_more : (s : List ℕ) (k : ℕ) → k < length s → {word : Word} → word ≡ word_of (take k s) → pushed word (get_or s k 0) ≡ word_of (take (k + 1) s)
+read_more s k h e = rw (e, add-one, take-suc s k 0 h) (sym (read_on (take k s) (get_or s k 0)))

@@ -1,29 +1,27 @@
--- Laws of any table of names, each from a test that antt computes: what a word names is what its bytes name; the places of a table of packed names;
+-- Laws of any table of names, each from a test that antt computes: what a word names is what its bytes name; what the code finds in its tables;
 -- a name leads back to its number.
 use mathlib.Core.Path.{◌≡◌, refl, sym, ap, ◌∙◌}
-use mathlib.Core.Logic.{⊎_elim}
-use mathlib.Core.List.{List, [], ◌∷◌, ◌++◌}
-use mathlib.Core.Bool.{Bool, true, false, cond, ◌&&◌, true≢false}
-use Prim.Native.Nat.{ℕ, zero, suc, ◌+◌, ◌≤◌, ◌<◌}
+use mathlib.Core.List.{List, [], ◌∷◌, map}
+use mathlib.Core.Bool.{Bool, true, false, cond, ◌&&◌, ◌||◌, true≢false}
+use Prim.Native.Nat.{ℕ, ◌≤◌}
 use Prim.Native.String.{String}
 use native.Mathlib.Omega.{arith}
-use lib.Dec.{leb, ltb, eqb}
-use lib.ListN.{length, take, get_or, length-append, get_or-eq_default}
-use lib.Seq.{take_at}
-use borrow.Author.Tests.{ltb-true, leb-true, eqb-true, eq-eqb, ne_eqb}
-use Rattle.basics.specs.Every.{every, All}
+use lib.Dec.{leb, eqb}
+use lib.ListN.{length}
+use borrow.Author.Tests.{leb-true, eqb-true, eq-eqb}
+use Rattle.std.specs.Prelude.{Option, Some, None, option_map, find, unwrap_or, is_some}
+use Rattle.std.specs.Borrow.{Bor}
+use Rattle.basics.specs.Every.{All}
 use Rattle.basics.proofs.Cases.{both, both_hold, fails, cond_elim}
-use Rattle.basics.proofs.Every.{every_at}
-use Rattle.basics.proofs.Table.{tabulate}
-use Rattle.basics.proofs.Order.{le_or_lt}
 use Rattle.words.specs.declared.Word.{Word}
 use Rattle.words.specs.declared.Word.TheVariants.{Letters, Other}
 use Rattle.words.specs.Text.{bytes, lowered, same}
-use Rattle.words.specs.Names.{number_named, name_of, has_name}
+use Rattle.words.specs.Names.{number_named, name_beside, name_of, has_name}
 use Rattle.words.specs.Words.{all_letters, packed, word_of}
 use Rattle.words.specs.Packed.{spells, number_packed}
-use Rattle.words.specs.Inner.{letters_in, place_from, place_of}
-use Rattle.words.proofs.Packing.{alike, same_true, same_self, packed_lowered, letters_lowered, length_lowered, letters_back}
+use Rattle.words.specs.Tables.{name_in}
+use Rattle.words.specs.Inner.{equal, named_in}
+use Rattle.words.proofs.Packing.{letters_in, alike, same_true, same_self, packed_lowered, letters_lowered, length_lowered, letters_back}
 
 -- a test of every row of a table
 unfoldable pub all_rows : (ℕ × String → Bool) → List (ℕ × String) → Bool
@@ -74,106 +72,111 @@ unfolding all_rows number_packed number_named
 named [] t s = refl
 named ((number, name) ∷ rest) t s = let p = both (is_name (bytes name)) (are_names rest) t in rw (spelled s name p.0, named rest p.1 s)
 
--- ---- a table of packed names
+-- ---- the tables of the code, whose rows are those of the quoted ones
 
--- the packed names of k numbers from n on, 0 where a number has none: what the code has
-abbrev pub packed_table : List (ℕ × String) → ℕ → ℕ → List ℕ
-packed_table table n k = tabulate (λ (c : ℕ). packed (name_of table c)) n k
+-- the first word of a table, and what stands beside it
+abbrev beside : {A : Type 0} → List (Option A × List ℕ) → Word → Option A
+beside [] word = None
+beside ((value, name) ∷ rest) word = cond (equal (word_of name) word) value (beside rest word)
 
--- the packed names of a table, each beside its number
-abbrev pub packs : List (ℕ × String) → List (ℕ × ℕ)
-packs [] = []
-packs ((number, name) ∷ rest) = (number, packed (bytes name)) ∷ packs rest
-
--- the entries from the place `at` on that are names, each beside the number g of its place
-abbrev pub entries : (ℕ → ℕ) → ℕ → List ℕ → List (ℕ × ℕ)
-entries g at [] = []
-entries g at (e ∷ rest) = cond (eqb e 0) (entries g (suc at) rest) ((g at, e) ∷ entries g (suc at) rest)
-
-abbrev pub beside : List (ℕ × ℕ) → ℕ → ℕ
-beside [] n = 0
-beside ((number, e) ∷ rest) n = cond (eqb e n) number (beside rest n)
-
-number_beside : (table : List (ℕ × String)) (n : ℕ) → number_packed table (Letters n) ≡ beside (packs table) n
-unfolding number_packed spells
-number_beside [] n = refl
-number_beside ((number, name) ∷ rest) n = rw (number_beside rest n)
-
-place_beside : (g : ℕ → ℕ) → g 0 ≡ 0 → (at : ℕ) (t : List ℕ) (n : ℕ) → (n ≡ 0 → ⊥) → g (place_from at t n) ≡ beside (entries g at t) n
-unfolding place_from
-place_beside g z at [] n h = z
-place_beside g z at (e ∷ rest) n h = go (place_beside g z (suc at) rest n h) (eqb e 0) refl (eqb e n) refl
+find_beside : {A : Type 0} (t : List (A × Bor (List ℕ))) (word : Word)
+    → option_map (λ row. row.0) (find (λ row. equal (word_of row.1.now) word) t) ≡ beside (map (λ row. (Some row.0, row.1.now)) t) word
+find_beside [] word = refl
+find_beside ((value, name) ∷ rest) word = go (equal (word_of name.now) word) (find_beside rest word)
   where
-    go : g (place_from (suc at) rest n) ≡ beside (entries g (suc at) rest) n → (x : Bool) → eqb e 0 ≡ x → (y : Bool) → eqb e n ≡ y
-        → g (cond y at (place_from (suc at) rest n)) ≡ beside (cond x (entries g (suc at) rest) ((g at, e) ∷ entries g (suc at) rest)) n
-    go i true p true q = absurd (h (omega (arith, eqb-true e 0 p, eqb-true e n q)))
-    go i true p false q = i
-    go i false p true q = rw q
-    go i false p false q = rw q i
+    go : (x : Bool) → option_map (λ row. row.0) (find (λ row. equal (word_of row.1.now) word) rest) ≡ beside (map (λ row. (Some row.0, row.1.now)) rest) word
+        → option_map (λ row. row.0) (cond x (Some (value, name)) (find (λ row. equal (word_of row.1.now) word) rest))
+        ≡ cond x (Some value) (beside (map (λ row. (Some row.0, row.1.now)) rest) word)
+    go true e = refl
+    go false e = e
 
-unnamed : (table : List (ℕ × String)) → number_packed table Other ≡ 0
-unfolding number_packed spells
-unnamed [] = refl
-unnamed ((number, name) ∷ rest) = unnamed rest
+pub equal_name : (name : String) → is_name (bytes name) ≡ true → (word : Word) → equal (word_of (bytes name)) word ≡ spells word name
+unfolding word_of spells
+equal_name name n word = let t = bytes name in rw (both (same (lowered t) t) (leb (length t) 12 && all_letters t) n).1 (go word)
+  where
+    go : (w : Word) → equal (Letters (packed (bytes name))) w ≡ spells w name
+    go (Letters n) = refl
+    go Other = refl
 
--- the place where a word stands, and so its number
-pub found : (g : ℕ → ℕ) (t : List ℕ) (table : List (ℕ × String)) → g 0 ≡ 0 → entries g 1 t ≡ packs table → beside (packs table) 0 ≡ 0
-    → (word : Word) → g (place_of (0 ∷ t) word) ≡ number_packed table word
-unfolding place_of place_from
-found g t table z e o Other = z ∙ sym (unnamed table)
-found g t table z e o (Letters zero) = z ∙ sym (number_beside table 0 ∙ o)
-found g t table z e o (Letters (suc n)) =
-    place_beside g z 0 (0 ∷ t) (suc n) (λ h. omega arith) ∙ ap (λ (x : List (ℕ × ℕ)). beside x (suc n)) e ∙ sym (number_beside table (suc n))
+beside_named : {A : Type 0} (f : Option ℕ → Option A) → f None ≡ None → (table : List (ℕ × String)) → are_names table ≡ true → (word : Word)
+    → beside (map (λ row. (f (Some row.0), bytes row.1)) table) word ≡ f (number_packed table word)
+unfolding all_rows number_packed
+beside_named f z [] t word = sym z
+beside_named f z ((number, name) ∷ rest) t word =
+    let p = both (is_name (bytes name)) (are_names rest) t in
+    rw (equal_name name p.0 word, beside_named f z rest p.1 word) (go (spells word name))
+  where
+    go : (x : Bool) → cond x (f (Some number)) (f (number_packed rest word)) ≡ f (cond x (Some number) (number_packed rest word))
+    go true = refl
+    go false = refl
 
--- a place is one of the table's
-place_from_below : (k at : ℕ) (t : List ℕ) (n : ℕ) → 0 < k → at + length t ≤ k → place_from at t n < k
-unfolding place_from
-place_from_below k at [] n h l = h
-place_from_below k at (e ∷ rest) n h l =
-    cond_elim (λ (x : ℕ). x < k) (eqb e n) at (place_from (suc at) rest n) (λ q. omega arith) (λ q. place_from_below k (suc at) rest n h (omega arith))
+-- what stands in a table of the code; and in a quoted one, where a row's number is another value
+abbrev pub rows : {A : Type 0} → List (A × Bor (List ℕ)) → List (Option A × List ℕ)
+rows {A} t = map {B = Option A × List ℕ} (λ row. (Some row.0, row.1.now)) t
 
-pub place_below : (k : ℕ) (t : List ℕ) (word : Word) → 0 < k → length t ≤ k → place_of t word < k
-unfolding place_of
-place_below k t (Letters n) h l = place_from_below k 0 t n h (omega arith)
-place_below k t Other h l = h
+abbrev pub quoted : {A : Type 0} → (Option ℕ → Option A) → List (ℕ × String) → List (Option A × List ℕ)
+quoted {A} f table = map {B = Option A × List ℕ} (λ row. (f (Some row.0), bytes row.1)) table
 
--- ---- the name at a place
+-- what the code finds beside a word
+pub found : {A : Type 0} (f : Option ℕ → Option A) (t : List (A × Bor (List ℕ))) (table : List (ℕ × String)) → f None ≡ None → are_names table ≡ true
+    → rows t ≡ quoted f table → (word : Word) → named_in t word ≡ f (number_packed table word)
+unfolding named_in
+found f t table z n e word = find_beside t word ∙ ap (λ x. beside x word) e ∙ beside_named f z table n word
 
-abbrev pub numbers_below : ℕ → List (ℕ × String) → Bool
-numbers_below k = all_rows (λ row. ltb row.0 k)
+-- the first name beside a number
+abbrev at : List (ℕ × List ℕ) → ℕ → Option (List ℕ)
+at [] number = None
+at ((n, name) ∷ rest) number = cond (eqb n number) (Some name) (at rest number)
 
-no_name : (k : ℕ) (table : List (ℕ × String)) → numbers_below k table ≡ true → (c : ℕ) → k ≤ c → name_of table c ≡ []
-unfolding all_rows name_of
-no_name k [] t c h = refl
-no_name k ((number, name) ∷ rest) t c h =
-    let p = both (ltb number k) (numbers_below k rest) t in
-    let l = ltb-true number k p.0 in
-    rw (ne_eqb number c (λ e. omega arith)) (no_name k rest p.1 c h)
+find_at : (t : List (ℕ × Bor (List ℕ))) (number : ℕ)
+    → option_map (λ row. row.1.now) (find (λ row. eqb row.0 number) t) ≡ at (map (λ row. (row.0, row.1.now)) t) number
+find_at [] number = refl
+find_at ((n, name) ∷ rest) number = go (eqb n number) (find_at rest number)
+  where
+    go : (x : Bool) → option_map (λ row. row.1.now) (find (λ row. eqb row.0 number) rest) ≡ at (map (λ row. (row.0, row.1.now)) rest) number
+        → option_map (λ row. row.1.now) (cond x (Some (n, name)) (find (λ row. eqb row.0 number) rest))
+        ≡ cond x (Some name.now) (at (map (λ row. (row.0, row.1.now)) rest) number)
+    go true e = refl
+    go false e = e
 
--- the letters at a place of a table are the name of its number
-abbrev pub spells_at : List ℕ → List (ℕ × String) → ℕ → Bool
-spells_at t table c = same (letters_in 12 (get_or t c 0)) (name_of table c)
+at_beside : (table : List (ℕ × String)) (number : ℕ) → at (map (λ row. (row.0, bytes row.1)) table) number ≡ name_beside table number
+unfolding name_beside
+at_beside [] number = refl
+at_beside ((n, name) ∷ rest) number = rw (at_beside rest number)
 
--- past a table's end there are none
-pub past : (t : List ℕ) {c : ℕ} → length t ≤ c → letters_in 12 (get_or t c 0) ≡ []
-unfolding letters_in
-past t h = ap (letters_in 12) (get_or-eq_default t 0 h)
+-- what the code finds beside a number
+pub name_found : (t : List (ℕ × Bor (List ℕ))) (table : List (ℕ × String))
+    → map {B = ℕ × List ℕ} (λ row. (row.0, row.1.now)) t ≡ map {B = ℕ × List ℕ} (λ row. (row.0, bytes row.1)) table
+    → (number : ℕ) → name_in t number ≡ name_beside table number
+unfolding name_in
+name_found t table e number = find_at t number ∙ ap (λ x. at x number) e ∙ at_beside table number
 
-module _ (t : List ℕ) (table : List (ℕ × String)) (e : every (spells_at t table) (length t) ≡ true) (b : numbers_below (length t) table ≡ true) (c : ℕ) where
-  name_at : letters_in 12 (get_or t c 0) ≡ name_of table c
-  name_at =
-      ⊎_elim (λ h. past t h ∙ sym (no_name (length t) table b c h))
-      (λ h. same_true (letters_in 12 (get_or t c 0)) (name_of table c) (every_at (spells_at t table) (length t) e c h)) (le_or_lt (length t) c)
+pub name_or_none : (table : List (ℕ × String)) (n : ℕ) → name_of table n ≡ unwrap_or (name_beside table n) []
+unfolding name_of name_beside
+name_or_none [] n = refl
+name_or_none ((number, name) ∷ rest) n = rw (name_or_none rest n) (go (eqb number n))
+  where
+    go : (x : Bool) → cond x (bytes name) (unwrap_or (name_beside rest n) []) ≡ unwrap_or (cond x (Some (bytes name)) (name_beside rest n)) []
+    go true = refl
+    go false = refl
 
-  -- at the front of a buffer, from what the code wrote there
-  pub name_written : {r : ℕ} {out : List ℕ} (rest : List ℕ) → r ≡ length (letters_in 12 (get_or t c 0)) → out ≡ letters_in 12 (get_or t c 0) ++ rest
-      → (out ≡ name_of table c ++ rest) × ((r ≡ length (name_of table c)) × (((r ≤ length out) × (r ≡ length (take r out))) × (take r out ≡ name_of table c)))
-  name_written {r} {out} rest p q =
-      let name = name_of table c in
-      let size : r ≡ length name = rw name_at at p in
-      let all : out ≡ name ++ rest = rw name_at at q in
-      let front : take r out ≡ name = ap (take r) all ∙ take_at name rest r (sym size) in
-      (all, (size, ((omega (arith, ap length all, length-append name rest), size ∙ ap length (sym front)), front)))
+-- the name that is shown, nothing where there is none
+pub name_shown : (o : Option (Bor (List ℕ))) (none : Bor (List ℕ)) → none.now ≡ [] → (table : List (ℕ × String)) (n : ℕ)
+    → option_map (λ name. name.now) o ≡ name_beside table n → (unwrap_or o none).now ≡ name_of table n
+name_shown o none z table n e = go o none z ∙ ap (λ x. unwrap_or x []) e ∙ sym (name_or_none table n)
+  where
+    go : (o : Option (Bor (List ℕ))) (none : Bor (List ℕ)) → none.now ≡ [] → (unwrap_or o none).now ≡ unwrap_or (option_map (λ name. name.now) o) []
+    go None none z = z
+    go (Some name) none z = refl
+
+pub name_where_named : (table : List (ℕ × String)) (n : ℕ) → has_name table n ≡ is_some (name_beside table n)
+unfolding has_name name_beside
+name_where_named [] n = refl
+name_where_named ((number, name) ∷ rest) n = rw (name_where_named rest n) (go (eqb number n))
+  where
+    go : (x : Bool) → (x || is_some (name_beside rest n)) ≡ is_some (cond x (Some (bytes name)) (name_beside rest n))
+    go true = refl
+    go false = refl
 
 -- ---- how long names are
 
@@ -190,21 +193,35 @@ name_length k ((number, name) ∷ rest) t n =
 
 -- ---- a name leads back to its number
 
+abbrev is_number : Option ℕ → ℕ → Bool
+is_number None n = false
+is_number (Some m) n = eqb m n
+
+number_is : (o : Option ℕ) (n : ℕ) → is_number o n ≡ true → o ≡ Some n
+number_is None n e = absurd (true≢false (sym e))
+number_is (Some m) n e = ap Some (eqb-true m n e)
+
 module _ (table : List (ℕ × String)) where
   abbrev pub lead_back : List (ℕ × String) → Bool
-  lead_back = all_rows (λ row. eqb (number_named table (bytes row.1)) row.0)
+  lead_back = all_rows (λ row. is_number (number_named table (bytes row.1)) row.0)
 
-  pub own_number : (rows : List (ℕ × String)) → lead_back rows ≡ true → All (λ (row : ℕ × String). number_named table (bytes row.1) ≡ row.0) rows
+  pub own_number : (rows : List (ℕ × String)) → lead_back rows ≡ true → All (λ (row : ℕ × String). number_named table (bytes row.1) ≡ Some row.0) rows
   unfolding all_rows
   own_number [] t = tt
   own_number ((number, name) ∷ rest) t =
-      let p = both (eqb (number_named table (bytes name)) number) (lead_back rest) t in
-      (eqb-true (number_named table (bytes name)) number p.0, own_number rest p.1)
+      let p = both (is_number (number_named table (bytes name)) number) (lead_back rest) t in
+      (number_is (number_named table (bytes name)) number p.0, own_number rest p.1)
 
-  pub name_back : (rows : List (ℕ × String)) → lead_back rows ≡ true → (n : ℕ) → has_name rows n ≡ true → number_named table (name_of rows n) ≡ n
+  pub name_back : (rows : List (ℕ × String)) → lead_back rows ≡ true → (n : ℕ) → has_name rows n ≡ true → number_named table (name_of rows n) ≡ Some n
   unfolding all_rows has_name name_of
-  name_back [] t n h = let z : ◌≡◌ {A = ℕ} 0 1 = cc in absurd (omega arith)
+  name_back [] t n h = absurd (true≢false (sym h))
   name_back ((number, name) ∷ rest) t n h =
-      let p = both (eqb (number_named table (bytes name)) number) (lead_back rest) t in
-      cond_elim (λ (x : List ℕ). number_named table x ≡ n) (eqb number n) (bytes name) (name_of rest n)
-      (λ e. eqb-true (number_named table (bytes name)) number p.0 ∙ eqb-true number n e) (λ e. name_back rest p.1 n (rw e at h))
+      let p = both (is_number (number_named table (bytes name)) number) (lead_back rest) t in
+      let here = number_is (number_named table (bytes name)) number p.0 in
+      go (eqb number n) refl here (name_back rest p.1 n) h
+    where
+      go : (x : Bool) → eqb number n ≡ x → number_named table (bytes name) ≡ Some number
+          → (has_name rest n ≡ true → number_named table (name_of rest n) ≡ Some n) → (x || has_name rest n) ≡ true
+          → number_named table (cond x (bytes name) (name_of rest n)) ≡ Some n
+      go true e here there h = here ∙ ap Some (eqb-true number n e)
+      go false e here there h = there h

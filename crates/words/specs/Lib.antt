@@ -3,3 +3,4 @@ pub mod Names
 pub mod Words
 pub mod Packed
 pub mod Inner
+pub mod Tables

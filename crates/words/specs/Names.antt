@@ -1,9 +1,9 @@
 -- The names of the calendars, the weekdays and the requests, each beside its number; the number that a text names, and the name of a number.
 use mathlib.Core.List.{List, [], ◌∷◌}
-use Rattle.std.specs.Prelude.{Bool, false, cond, ◌||◌, ℕ, eqb, get_or}
+use Rattle.std.specs.Prelude.{Bool, false, cond, ◌||◌, ℕ, eqb, get_or, Option, Some, None}
 use Prim.Native.String.{String}
 use Rattle.words.specs.declared.Request.{Request}
-use Rattle.words.specs.declared.Request.TheVariants.{Day, Date, Months, Easter, Frame, Fit, Unfold, Calendars, Answers, Help, Unknown}
+use Rattle.words.specs.declared.Request.TheVariants.{Day, Date, Months, Easter, Frame, Fit, Unfold, Calendars, Answers, Help}
 use Rattle.words.specs.Text.{bytes, lowered, same}
 
 unfoldable pub calendar_names : List (ℕ × String)
@@ -21,12 +21,17 @@ request_names =
     (1, "day") ∷ (2, "date") ∷ (3, "months") ∷ (4, "easter") ∷ (5, "frame") ∷ (6, "fit") ∷ (7, "unfold") ∷ (8, "calendars") ∷ (9, "answers") ∷ (10, "help")
     ∷ (10, "--help") ∷ (10, "-h") ∷ []
 
--- the number beside the name that a text is, its capitals made small; 0 where it is none
-unfoldable pub number_named : List (ℕ × String) → List ℕ → ℕ
-number_named [] text = 0
-number_named ((number, name) ∷ rest) text = cond (same (bytes name) (lowered text)) number (number_named rest text)
+-- the number beside the name that a text is, its capitals made small
+unfoldable pub number_named : List (ℕ × String) → List ℕ → Option ℕ
+number_named [] text = None
+number_named ((number, name) ∷ rest) text = cond (same (bytes name) (lowered text)) (Some number) (number_named rest text)
 
--- the first name beside a number; empty where there is none
+-- the first name beside a number, where there is one
+unfoldable pub name_beside : List (ℕ × String) → ℕ → Option (List ℕ)
+name_beside [] number = None
+name_beside ((n, name) ∷ rest) number = cond (eqb n number) (Some (bytes name)) (name_beside rest number)
+
+-- the same; empty where there is none
 unfoldable pub name_of : List (ℕ × String) → ℕ → List ℕ
 name_of [] number = []
 name_of ((n, name) ∷ rest) number = cond (eqb n number) (bytes name) (name_of rest number)
@@ -37,5 +42,9 @@ has_name [] number = false
 has_name ((n, name) ∷ rest) number = eqb n number || has_name rest number
 
 -- the request of a number; 0 and numbers above 10 are of none
-unfoldable pub request_numbered : ℕ → Request
-request_numbered n = get_or (Unknown ∷ Day ∷ Date ∷ Months ∷ Easter ∷ Frame ∷ Fit ∷ Unfold ∷ Calendars ∷ Answers ∷ Help ∷ []) n Unknown
+abbrev pub request_numbered : Option ℕ → Option Request
+request_numbered None = None
+request_numbered (Some n) =
+    get_or
+    (None ∷ Some Day ∷ Some Date ∷ Some Months ∷ Some Easter ∷ Some Frame ∷ Some Fit ∷ Some Unfold ∷ Some Calendars ∷ Some Answers ∷ Some Help ∷ [])
+    n None

@@ -1,154 +1,46 @@
-// The words of requests, calendars and weekdays: read byte by byte, looked up in one table each, and written.
+// The words of requests, calendars and weekdays: read byte by byte, looked up in one table each, and named.
 // `proofs/Claims.antt` is the page to read first.
 #![tactic(auto)]
 
-ghost use Rattle.std.specs.Prelude.{◌≡◌, ◌++◌, ◌≤◌, length, take, drop, get_or};
-ghost use Rattle.words.specs.Text.{lower};
-ghost use Rattle.words.specs.Names.{calendar_names, weekday_names, request_names, request_numbered, name_of};
-ghost use Rattle.words.specs.Words.{letter_of};
-ghost use Rattle.words.specs.Packed.{pushed, spells, number_packed};
-ghost use Rattle.words.specs.Inner.{letter_byte, letters_in, place_of};
+ghost use Rattle.std.specs.Prelude.{◌≡◌, [], option_map};
+ghost use Rattle.words.specs.Names.{calendar_names, weekday_names, request_names, name_beside};
+ghost use Rattle.words.specs.Words.{word_of};
+ghost use Rattle.words.specs.Packed.{pushed, spells, number_packed, request_packed};
+ghost use Rattle.words.specs.Tables.{name_in};
+ghost use Rattle.words.specs.Inner.{letter_if_any, named_in};
 
-// The packed names, each at its number; 0 where a number has none.
-const CALENDARS: [u64; 19] = [
-    0,
-    180171187246, // egyptian
-    54129009710, // armenian
-    12691716736197678, // khwarizmian
-    17367147566, // persian
-    6193661092910, // ethiopian
-    116936995, // coptic
-    639388640119854, // republican
-    458604947121198, // macedonian
-    664347694, // syrian
-    357966894, // julian
-    8320676602926, // gregorian
-    10561372065633, // islamic-a
-    10561372065634, // islamic-b
-    2138153, // bahai
-    623969, // saka
-    0,
-    0,
-    273762487, // hebrew
+// The names of the calendars, each beside the number by which `calendars` and the C interface know it.
+const CALENDARS: [(u64, &str); 16] = [
+    (1, "egyptian"),
+    (2, "armenian"),
+    (3, "khwarizmian"),
+    (4, "persian"),
+    (5, "ethiopian"),
+    (6, "coptic"),
+    (7, "republican"),
+    (8, "macedonian"),
+    (9, "syrian"),
+    (10, "julian"),
+    (11, "gregorian"),
+    (12, "islamic-a"),
+    (13, "islamic-b"),
+    (14, "bahai"),
+    (15, "saka"),
+    (18, "hebrew"),
 ];
 
-const WEEKDAYS: [u64; 8] = [
-    0,
-    452399161, // monday
-    22185349177, // tuesday
-    25465336729657, // wednesday
-    696508846137, // thursday
-    220500025, // friday
-    654602473529, // saturday
-    660017209, // sunday
+const WEEKDAYS: [(u64, &str); 7] = [
+    (1, "monday"),
+    (2, "tuesday"),
+    (3, "wednesday"),
+    (4, "thursday"),
+    (5, "friday"),
+    (6, "saturday"),
+    (7, "sunday"),
 ];
 
-// Help has three names.
-const REQUESTS: [u64; 13] = [
-    0,
-    4153, // day
-    132741, // date
-    452415763, // months
-    169463986, // easter
-    6882725, // frame
-    6452, // fit
-    719535492, // unfold
-    3345962108499, // calendars
-    1564186195, // answers
-    267664, // help
-    934548880, // --help
-    872, // -h
-];
-
-// The word `all`.
-const ALL: u64 = 1420;
-
-// What some bytes are, read so far.
-#[derive(Clone, Copy)]
-pub enum Word {
-    // So many letters, packed; 0 before the first.
-    Letters(u64),
-    // No word.
-    Other,
-}
-
-// A capital letter made small; any other byte as it is.
-#[tactic(auto, unfolding(crate::specs::Text::lower))]
-fn lower_case(byte: u8) -> u8
-    ensures { result ≡ lower byte }
-{
-    if (b'A' <= byte) & (byte <= b'Z') {
-        return byte + 32;
-    }
-    byte
-}
-
-// The number of a letter or hyphen, 1 to 27; 0 of any other byte.
-#[tactic(auto, unfolding(crate::specs::Words::small_letter))]
-fn letter(byte: u8) -> u8
-    ensures { result ≡ letter_of byte }
-{
-    let small = lower_case(byte);
-    if (b'a' <= small) & (small <= b'z') {
-        return small - 96;
-    }
-    if small == b'-' {
-        return 27;
-    }
-    0
-}
-
-// A word with one more byte.
-#[tactic(auto, unfolding(crate::specs::Packed::pushed))]
-pub fn push(word: Word, byte: u8) -> Word
-    ensures { result ≡ pushed word byte }
-{
-    let Word::Letters(packed) = word else {
-        return Word::Other;
-    };
-    let next = letter(byte);
-    // At most 11 letters so far.
-    if packed < 0x80_0000_0000_0000 {
-        if 0 < next {
-            return Word::Letters(packed * 32 + (next as u64));
-        }
-    }
-    Word::Other
-}
-
-// The first place of a table that holds a word; 0 where none does.
-fn find(table: &[u64], word: Word) -> u64
-    ensures { result ≡ place_of table.now word }
-{
-    let Word::Letters(packed) = word else {
-        return 0;
-    };
-    let mut k: usize = 0;
-    while k < table.len() {
-        if table[k] == packed {
-            return k as u64;
-        }
-        k += 1;
-    }
-    0
-}
-
-// The calendar that a word names; 0 where it names none.
-pub fn calendar(word: Word) -> u64
-    ensures { result ≡ number_packed calendar_names word }
-{
-    find(&CALENDARS, word)
-}
-
-// The weekday that a word names, 1 Monday to 7 Sunday; 0 where it names none.
-pub fn weekday(word: Word) -> u64
-    ensures { result ≡ number_packed weekday_names word }
-{
-    find(&WEEKDAYS, word)
-}
-
-// What is asked; `Unknown` where a word names no request.
-#[derive(Clone, Copy)]
+// What is asked.
+#[derive(Clone, Copy, Debug, PartialEq, Eq)]
 pub enum Request {
     Day,
     Date,
@@ -160,101 +52,140 @@ pub enum Request {
     Calendars,
     Answers,
     Help,
-    Unknown,
 }
 
-// The request at each place of `REQUESTS`.
-const REQUEST_OF_PLACE: [Request; 13] = [
-    Request::Unknown,
-    Request::Day,
-    Request::Date,
-    Request::Months,
-    Request::Easter,
-    Request::Frame,
-    Request::Fit,
-    Request::Unfold,
-    Request::Calendars,
-    Request::Answers,
-    Request::Help,
-    Request::Help,
-    Request::Help,
+// Help has three names.
+const REQUESTS: [(Request, &str); 12] = [
+    (Request::Day, "day"),
+    (Request::Date, "date"),
+    (Request::Months, "months"),
+    (Request::Easter, "easter"),
+    (Request::Frame, "frame"),
+    (Request::Fit, "fit"),
+    (Request::Unfold, "unfold"),
+    (Request::Calendars, "calendars"),
+    (Request::Answers, "answers"),
+    (Request::Help, "help"),
+    (Request::Help, "--help"),
+    (Request::Help, "-h"),
 ];
 
-// The request that a word names.
-pub fn request_of(word: Word) -> Request
-    ensures { result ≡ request_numbered (number_packed request_names word) }
-{
-    let place = find(&REQUESTS, word) as usize;
-    REQUEST_OF_PLACE[place]
+// What some bytes are, read so far. Packed, 5 bits a letter, and no Option: `word_of` and the claims on it are of this type, and say that packing loses nothing.
+#[derive(Clone, Copy, Debug, PartialEq, Eq)]
+pub enum Word {
+    // So many letters, packed; 0 before the first.
+    Letters(u64),
+    // No word.
+    Other,
 }
 
-// Whether a word is `all`.
-pub fn is_all(word: Word) -> bool
-    ensures { result ≡ spells word "all" }
+// The number of a letter or hyphen, 1 to 27.
+#[tactic(auto, unfolding(crate::specs::Words::small_letter, crate::specs::Text::lower))]
+fn letter(byte: u8) -> Option<u8>
+    ensures { result ≡ letter_if_any byte }
 {
-    match word {
-        Word::Letters(packed) => ALL == packed,
-        Word::Other => false,
+    match byte.to_ascii_lowercase() {
+        small @ b'a'..=b'z' => Some(small - b'a' + 1),
+        b'-' => Some(27),
+        _ => None,
     }
 }
 
-// The byte of a letter.
-fn byte(letter: u64) -> u8
-    ensures { result ≡ letter_byte letter }
-{
-    if letter == 27 {
-        return b'-';
+impl Word {
+    // Of no byte.
+    #[tactic(auto, unfolding(crate::specs::Words::word_of, crate::specs::Words::all_letters, crate::specs::Words::packed_from))]
+    pub fn new() -> Word
+        ensures { result ≡ word_of [] }
+    {
+        Word::Letters(0)
     }
-    (96 + letter % 32) as u8
+
+    // Goes on to the word with one more byte.
+    #[tactic(auto, unfolding(crate::specs::Packed::pushed))]
+    pub fn push(&mut self, byte: u8)
+        ensures { self.new ≡ pushed self.old byte }
+    {
+        *self = match (*self, letter(byte)) {
+            // At most 11 letters so far.
+            (Word::Letters(packed), Some(next)) if packed < 1 << 55 => {
+                Word::Letters(packed * 32 + u64::from(next))
+            }
+            _ => Word::Other,
+        };
+    }
+
+    // Whether it is `all`.
+    pub fn is_all(self) -> bool
+        ensures { result ≡ spells self "all" }
+    {
+        Word::from(b"all".as_slice()) == self
+    }
 }
 
-// Writes a packed word's letters at the front, and answers how many.
-fn write(packed: u64, out: &mut [u8]) -> usize
-    requires { 12 ≤ length out.old }
-    ensures { (result ≡ length (letters_in 12 packed)) × (out.new ≡ letters_in 12 packed ++ drop result out.old) }
-{
-    let mut at: usize = 0;
-    let mut k: u64 = 12;
-    while 0 < k {
-        k -= 1;
-        let letter = (packed >> (5 * k)) % 32;
-        if 0 < letter {
-            out[at] = byte(letter);
-            at += 1;
+impl From<&[u8]> for Word {
+    ghost from_gives = { λ text word. word ≡ word_of text.now };
+
+    fn from(text: &[u8]) -> Word
+        ensures { result ≡ word_of text.now }
+    {
+        let mut word = Word::new();
+        for &byte in text {
+            word.push(byte);
         }
+        word
     }
-    at
 }
 
-// Writes the word at a place of a table.
-fn write_at(table: &[u64], place: u64, out: &mut [u8]) -> usize
-    requires { 12 ≤ length out.old }
-    ensures { (result ≡ length (letters_in 12 (get_or table.now place 0)))
-        × (out.new ≡ letters_in 12 (get_or table.now place 0) ++ drop result out.old) }
+// What stands in a table beside the first name that a word is.
+#[tactic(auto, unfolding(crate::specs::Inner::named_in))]
+fn named<T: Copy>(table: &[(T, &str)], word: Word) -> Option<T>
+    ensures { result ≡ named_in table.now word }
 {
-    let at = place as usize;
-    if at < table.len() {
-        return write(table[at], out);
-    }
-    0
+    table
+        .iter()
+        .find(|row| Word::from(row.1.as_bytes()) == word)
+        .map(|row| row.0)
 }
 
-// Writes a calendar's name at the front of the buffer, and answers its length; nothing where it has none.
-pub fn calendar_name(calendar: u64, out: &mut [u8; 12]) -> usize
-    ensures written { out.new ≡ name_of calendar_names calendar ++ drop result out.old }
-    ensures size { result ≡ length (name_of calendar_names calendar) }
-    ensures within { (result ≤ length out.new) × (result ≡ length (take result out.new)) }
-    ensures front { take result out.new ≡ name_of calendar_names calendar }
+// The first name beside a number in a table.
+#[tactic(auto, unfolding(crate::specs::Tables::name_in))]
+pub fn name_at(table: &[(u64, &'static str)], number: u64) -> Option<&'static str>
+    ensures { option_map (λ name. name.now) result ≡ name_in table.now number }
 {
-    write_at(&CALENDARS, calendar, out)
+    table.iter().find(|row| row.0 == number).map(|row| row.1)
 }
 
-// A weekday's name likewise.
-pub fn weekday_name(weekday: u64, out: &mut [u8; 12]) -> usize
-    ensures written { out.new ≡ name_of weekday_names weekday ++ drop result out.old }
-    ensures size { result ≡ length (name_of weekday_names weekday) }
-    ensures within { (result ≤ length out.new) × (result ≡ length (take result out.new)) }
-    ensures front { take result out.new ≡ name_of weekday_names weekday }
+// The calendar that a word names.
+pub fn calendar(word: Word) -> Option<u64>
+    ensures { result ≡ number_packed calendar_names word }
 {
-    write_at(&WEEKDAYS, weekday, out)
+    named(&CALENDARS, word)
+}
+
+// The weekday that a word names, 1 Monday to 7 Sunday.
+pub fn weekday(word: Word) -> Option<u64>
+    ensures { result ≡ number_packed weekday_names word }
+{
+    named(&WEEKDAYS, word)
+}
+
+// The request that a word names.
+pub fn request_of(word: Word) -> Option<Request>
+    ensures { result ≡ request_packed word }
+{
+    named(&REQUESTS, word)
+}
+
+// A calendar's name.
+pub fn calendar_name(calendar: u64) -> Option<&'static str>
+    ensures { option_map (λ name. name.now) result ≡ name_beside calendar_names calendar }
+{
+    name_at(&CALENDARS, calendar)
+}
+
+// A weekday's name.
+pub fn weekday_name(weekday: u64) -> Option<&'static str>
+    ensures { option_map (λ name. name.now) result ≡ name_beside weekday_names weekday }
+{
+    name_at(&WEEKDAYS, weekday)
 }

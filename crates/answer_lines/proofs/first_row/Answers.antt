@@ -1,13 +1,15 @@
+use mathlib.Core.Path.{refl, ◌∙◌}
+use borrow.Author.Rules.{rules}
 use mir.Syntax.{w64}
 use mir.ValLaws.{to_z-of_z}
 use Rattle.words.specs.Text.{bytes}
-use Rattle.texts.proofs.Writing.{then, counts}
+use Rattle.texts.proofs.Lines.{then, finished}
 use Rattle.answer_lines.specs.Lines.{first_row}
 use Rattle.answer_lines.proofs.first_row.Goals as goal
 
-pub returns : goal.returns
+pub returns-clause-text : goal.returns-clause-text
 unfolding first_row bytes
-returns c =
-    let y = rw (to_z-of_z w64 c.args.year c.ranges.year) at c.append_signed_in.ensures in
-    let w = then (then (then c.append_heading-a.ensures c.append_number_in-b.ensures) c.append_byte-c.ensures) y in
-    record { text = w; within = counts w }
+returns-clause-text c =
+    let day = rw (c.as_bytes.ensures ∙ c.from.ensures) at c.push_right.ensures in
+    let year = rw (c.as_bytes-2.ensures ∙ c.from-2.ensures, to_z-of_z w64 c.args.year c.ranges.year) at c.push_right-2.ensures in
+    finished c.new-line.ensures (then (then (then c.push_heading.ensures day) c.push.ensures) year) refl (search rules)

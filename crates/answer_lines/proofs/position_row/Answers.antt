@@ -1,12 +1,16 @@
+use mathlib.Core.Path.{◌≡◌, refl, ◌∙◌}
+use borrow.Author.Rules.{rules}
 use Rattle.words.specs.Text.{bytes}
-use Rattle.texts.proofs.Writing.{then, counts}
+use Rattle.texts.proofs.Lines.{then, finished}
+use Rattle.calendars.specs.Paper.{position_paper}
 use Rattle.answer_lines.specs.Lines.{position_row}
 use Rattle.answer_lines.proofs.position_row.Goals as goal
 
-pub returns : goal.returns
+pub returns-clause-text : goal.returns-clause-text
 unfolding position_row bytes
-returns c =
-    let n = rw c.days_of.ensures at c.append_number_in.ensures in
-    let k = then (then c.append_number_in-a.ensures c.append_byte-b.ensures) c.append_kind-c.ensures in
-    let w = then (then k c.append_byte-d.ensures) n in
-    record { text = w; within = counts w }
+returns-clause-text c =
+    let number = rw (c.as_bytes.ensures ∙ c.from.ensures) at c.push_right.ensures in
+    let n : c.map_or-days.result ≡ (position_paper c.args.answer).days = search rules in
+    let days = rw (c.as_bytes-2.ensures ∙ c.from-2.ensures, n) at c.push_right-2.ensures in
+    let kind = rw c.kind.ensures at c.push_left.ensures in
+    finished c.new-line.ensures (then (then (then (then number c.push.ensures) kind) c.push-2.ensures) days) refl (search rules)

@@ -1,6 +1,9 @@
-use Rattle.std.proofs.Common.{refl, arith}
+use Rattle.std.proofs.Common.{◌≡◌, refl, subst, ℕ, arith}
+use lib.ListN.{get_or}
 use Rattle.counting.specs.Answers.{years}
 use Rattle.calendar_rules.specs.Calendars.{bahai}
+use Rattle.months.specs.BahaiSaka.{from_last}
+use Rattle.months.specs.Leap.{gregorian_long}
 use Rattle.months.proofs.Dates.{no_length}
 use Rattle.months.proofs.GregorianKind.{kind_positions, kind_month}
 use Rattle.months.proofs.BahaiSaka.{bahai_kind}
@@ -10,4 +13,8 @@ pub returns-then-p-gt19 : goal.returns-then-p-gt19
 returns-then-p-gt19 c = no_length (years bahai) c.args.i c.args.p (omega (arith, kind_positions bahai_kind c.args.i))
 
 pub returns : goal.returns
-returns c = (kind_month bahai_kind c.args.i c.args.p _ _ _ _ (omega arith) refl refl refl (rw c.pick-wrap.ensures.0 at c.counted_length.ensures)).length_is
+returns c =
+    let at = c.counted_position-at in
+    let l = c.counted_length.ensures in
+    let d = subst (λ (z : ℕ). c.counted_length.result ≡ get_or (from_last (gregorian_long z)) at.result.position 0) at.ensures.year l.0 in
+    (l.1, (kind_month bahai_kind c.args.i c.args.p _ _ _ _ (omega arith) refl refl refl (rw at.ensures.position at d)).length_is)

@@ -21,11 +21,11 @@ returns-then-weekday-eq0 c =
     let e : a.calendar ≡ 18 = omega arith in
     let f : a.weekday ≡ 0 = omega arith in
     rw (e, f)
-    (split 18 a.year a.month a.day 0 c.hebrew_day.result c.day_fields.result c.day_fields.ensures
+    (split 18 a.year a.month a.day 0 c.hebrew_day.result.number c.from.result c.from.ensures
     ((rw (to_z-of_z w64 a.year c.ranges.year) at c.hebrew_day.ensures) ∙ ap packed_day (sym (no_weekday 18 a.year a.month a.day))))
 
 pub returns : goal.returns
 returns c =
     let a = c.args in
-    split a.calendar a.year a.month a.day a.weekday c.packed_day.result c.day_fields-2.result c.day_fields-2.ensures
+    split a.calendar a.year a.month a.day a.weekday c.packed_day.result.number c.from-2.result c.from-2.ensures
     (rw (to_z-of_z w64 a.year c.ranges.year) at c.packed_day.ensures)

@@ -1,9 +1,12 @@
-use mathlib.Core.Path.{sym}
-use native.Mathlib.Omega.{arith}
-use lib.Seq.{length-take-le}
-use Rattle.carrying.proofs.Ends.{within}
+use Rattle.std.proofs.Common.{ap, ◌∙◌, rules, length}
+use Rattle.std.specs.Option.{unwrap_or}
+use Rattle.carrying.proofs.Ends.{positioned}
 use Rattle.carrying.proofs.go_on.Goals as goal
 
-pub slice_bounds-keep-end : goal.slice_bounds-keep-end
-slice_bounds-keep-end c =
-    sym (length-take-le _ _ (omega (arith, c.line_end-end.ensures, within c.args.bytes.now)))
+pub returns : goal.returns
+returns c =
+    let bytes = c.args.bytes.now in
+    record {
+      end = c.unwrap_or-end.ensures ∙ ap (λ o. unwrap_or o (length bytes)) c.first_newline.ensures ∙ positioned bytes;
+      line = search rules;
+    }

@@ -1,19 +1,32 @@
-use mathlib.Core.Path.{sym}
+use mathlib.Core.Path.{◌≡◌, sym}
+use mathlib.Core.List.{List}
+use mathlib.Core.Bool.{Bool, true, false}
+use Prim.Native.Nat.{ℕ, ◌≤◌, ◌<◌}
 use native.Mathlib.Omega.{arith}
+use borrow.Author.Tests.{tests}
+use lib.ListN.{length}
+use Rattle.std.proofs.Common.{rules}
+use Rattle.std.proofs.lemmas.Iterator.{YieldsList-from_slice, cases_from_all}
+use Rattle.std.specs.Bool.{MatchBool}
+use Rattle.std.specs.List.{AllWithin, HoldsAt}
+use Rattle.lines.specs.BandTest.{within}
 use Rattle.lines.proofs.Tests.{within_is, within_not}
 use Rattle.codes.proofs.within_limits.Goals as goal
 
-pub returns-then-n-eq0 : goal.returns-then-n-eq0
-returns-then-n-eq0 c = sym ((within_not _).1 (λ w. omega (arith, w.any)))
+-- a code with as many lengths as may be is within the limits where each length is
+each : (code : List ℕ) (all : Bool) → 0 < length code → length code ≤ 512
+    → MatchBool all (AllWithin (λ x. x ≤ 400) code 0 (length code)) ((k : ℕ) × (k < length code) × HoldsAt (λ x. 400 < x) code k)
+    → all ≡ within code
+each code true any most h = sym ((within_is code).1 (record { any = any; few = most; small = λ k l. h k 0 (omega arith) l }))
+each code false any most h = sym ((within_not code).1 (λ w. omega (arith, w.small h.0 h.1, h.2 0)))
 
-pub returns-then-n-gt-MOST_LENGTHS : goal.returns-then-n-gt-MOST_LENGTHS
-returns-then-n-gt-MOST_LENGTHS c = sym ((within_not _).1 (λ w. omega (arith, w.few)))
+pub returns-then-code-le-MOST_LENGTHS : goal.returns-then-code-le-MOST_LENGTHS
+returns-then-code-le-MOST_LENGTHS c =
+    each _ _ (grind (arith, tests)) (omega arith)
+    (cases_from_all _ _ _ (λ x. x ≤ 400) (λ x. 400 < x) c.all.ensures.ran (YieldsList-from_slice c.args.code.now cc) (λ x q k. search (rules, tests))
+    (λ x q k. search (rules, tests)))
 
-pub returns-then-code-k-gt-LONGEST : goal.returns-then-code-k-gt-LONGEST
-returns-then-code-k-gt-LONGEST c = sym ((within_not _).1 (λ w. omega (arith, w.small c.loop-k.k (omega arith))))
-
-pub returns : goal.returns
-returns c =
-    sym
-    ((within_is _).1
-    (record { any = omega arith; few = omega arith; small = λ k h. omega (arith, c.loop-k.invariant.1 k (omega arith)) }))
+pub returns-else-code-le-MOST_LENGTHS : goal.returns-else-code-le-MOST_LENGTHS
+returns-else-code-le-MOST_LENGTHS c =
+    let outside : within c.args.code.now ≡ false = (within_not _).1 (λ w. grind (arith, tests, w.any, w.few)) in
+    search (rules, tests, outside)

@@ -1,5 +1,5 @@
 use mathlib.Core.Path.{◌≡◌, refl, ap, ◌∙◌, subst}
-use mathlib.Core.List.{◌++◌, append-nil}
+use mathlib.Core.List.{◌++◌}
 use Prim.Native.Nat.{ℕ}
 use native.Mathlib.Omega.{arith}
 use native.Mathlib.Nat.{mod-mod}
@@ -8,12 +8,8 @@ use Rattle.hex_digits.specs.Digits.{hex_byte, written_in}
 use Rattle.hex_digits.proofs.Writing.{next}
 use Rattle.hex_digits.proofs.write.Goals as goal
 
-pub loop-k-init : goal.loop-k-init
-loop-k-init c = record { size = refl; most = omega arith; all = append-nil (written_in 16 c.args.n) }
-
 pub loop-k-preserved : goal.loop-k-preserved
-loop-k-preserved c =
-    next c.loop-k.invariant (omega (arith, c.loop-k.invariant.most)) (c.byte.ensures ∙ ap hex_byte (mod-mod c.loop-k.rest 16)) refl refl
+loop-k-preserved c = next c.loop-k.invariant (omega arith) (c.byte.ensures ∙ ap hex_byte (mod-mod c.loop-k.rest 16)) refl refl
 
 pub returns : goal.returns
 unfolding written_in

@@ -1,16 +1,10 @@
-use Prim.Native.Nat.{◌-◌}
-use native.Mathlib.Omega.{arith}
-use lib.IntN.{pos}
-use Rattle.counting.specs.Answers.{years}
-use Rattle.months.specs.Parts.{islamic_from}
-use Rattle.months.proofs.Dates.{later_place}
 use Rattle.months.proofs.Islamic.{islamic_date}
 use Rattle.islamic.proofs.date_on.Goals as goal
 
 pub returns : goal.returns
 returns c =
-    let f = c.args.first in
+    let n = c.in_ok-n.ensures in
     let q = c.pick-p.ensures.0 in
+    let f = c.from.ensures in
     let p = c.place_in.ensures in
-    later_place (years (islamic_from f)) (pos 1) f c.args.day _ _ _ (omega arith)
-    (islamic_date f (c.args.day - f) _ _ _ p.0 (rw q at p.1) (rw q at p.2))
+    (n.0, rw (← n.1) (islamic_date c.args.first c.in_ok-n.n _ _ _ (rw f at p.0) (rw (q, f) at p.1) (rw (q, f) at p.2)))

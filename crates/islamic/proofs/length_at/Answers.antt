@@ -1,4 +1,4 @@
-use native.Mathlib.Omega.{arith}
+use Rattle.std.proofs.Common.{arith}
 use Rattle.counting.specs.Answers.{years}
 use Rattle.months.specs.Parts.{islamic_from}
 use Rattle.months.proofs.Dates.{no_length}
@@ -7,8 +7,10 @@ use Rattle.islamic.proofs.length_at.Goals as goal
 
 -- `islamic::length_at` meets its contract.
 pub returns-then-p-gt11 : goal.returns-then-p-gt11
-returns-then-p-gt11 c = λ first. no_length (years (islamic_from first)) c.args.i c.args.p (omega (arith, islamic_positions first c.args.i))
+returns-then-p-gt11 c = (λ first. no_length (years (islamic_from first)) c.args.i c.args.p (omega (arith, islamic_positions first c.args.i)), tt)
 
 pub returns : goal.returns
-returns c =
-    λ first. rw (c.pick.ensures.0, c.pick-last.ensures.0) (islamic_length first c.args.i c.args.p (omega arith))
+returns c = (
+  λ first. (omega arith, rw (c.pick.ensures.0, c.pick-last.ensures.0, c.from.ensures) (islamic_length first c.args.i c.args.p (omega arith))),
+  omega arith,
+)

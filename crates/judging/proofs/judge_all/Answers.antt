@@ -8,27 +8,29 @@ use Rattle.replying.proofs.Claims.{reads}
 use Rattle.judging.specs.Inner.{TakesFrom}
 use Rattle.judging.proofs.Piece.{room}
 use Rattle.judging.proofs.judge_all.Goals as goal
-use Rattle.judging.proofs.judge_all.Goals.{After-take_frames-run}
+use Rattle.judging.proofs.judge_all.Goals.{After-take_frames-progress}
 
-pub loop-i-init : goal.loop-i-init
-loop-i-init c = none_from judging most tt (kept_of c.args.start) _ 0 (omega arith) (kept_few c.args.start (search rules)) (omega arith)
+pub loop-progress-init : goal.loop-progress-init
+loop-progress-init c =
+    none_from judging most tt (kept_of c.args.start) _ 0 (omega arith) (kept_few c.args.start (search rules)) (omega arith)
 
-pub take_frames-run-requires-clause-room : goal.take_frames-run-requires-clause-room
-take_frames-run-requires-clause-room c = room (omega arith) c.loop-i.invariant
+pub take_frames-progress-requires-clause-room : goal.take_frames-progress-requires-clause-room
+take_frames-progress-requires-clause-room c = room (omega arith) c.loop-progress.invariant
 
 -- the frames taken
-frames : (c : After-take_frames-run)
-    → let r = c.take_frames-run.result in
-    TakesFrom c.args.start c.args.input.now 0 r.next c.args.out.now 0 c.loop-i.state c.take_frames-run.new.out r.written
-frames c = then_from judging most (omega arith) reads (omega arith) c.loop-i.invariant c.take_frames-run.ensures
+frames : (c : After-take_frames-progress)
+    → let r = c.take_frames-progress in
+    TakesFrom (record { state = c.args.start; consumed = 0; written = 0 }) c.args.input.now c.args.out.now r.result r.new.out
+frames c = then_from judging most (omega arith) reads (omega arith) c.loop-progress.invariant c.take_frames-progress.ensures
 
-pub take_line-done-requires-clause-room : goal.take_line-done-requires-clause-room
-take_line-done-requires-clause-room c = room (omega arith) (frames (goal.at.take_line-done-requires-clause-room c).After-take_frames-run)
+pub take_line-progress-requires-clause-room : goal.take_line-progress-requires-clause-room
+take_line-progress-requires-clause-room c =
+    room (omega arith) (frames (goal.at.take_line-progress-requires-clause-room c).After-take_frames-progress)
 
-pub loop-i-preserved-then-i-input : goal.loop-i-preserved-then-i-input
-loop-i-preserved-then-i-input c =
-    then_from judging most (omega arith) reads (omega arith) (frames (goal.at.loop-i-preserved-then-i-input c).After-take_frames-run)
-    c.take_line-done.ensures.takes_from
+pub loop-progress-preserved-then-progress-input : goal.loop-progress-preserved-then-progress-input
+loop-progress-preserved-then-progress-input c =
+    then_from judging most (omega arith) reads (omega arith) (frames (goal.at.loop-progress-preserved-then-progress-input c).After-take_frames-progress)
+    c.take_line-progress.ensures.takes_from
 
-pub loop-i-preserved : goal.loop-i-preserved
-loop-i-preserved c = frames (goal.at.loop-i-preserved c).After-take_frames-run
+pub loop-progress-preserved : goal.loop-progress-preserved
+loop-progress-preserved c = frames (goal.at.loop-progress-preserved c).After-take_frames-progress

@@ -4,8 +4,8 @@ use Rattle.judging.specs.Inner.{TakesFrom}
 use Rattle.judging.proofs.judge_all.Given as goal
 
 -- what was to be done with the bytes passed is done
-abbrev pub invariant-loop-i : goal.invariant-loop-i
-invariant-loop-i l = TakesFrom l.initial.state l.input 0 l.i l.initial.out 0 l.state l.out l.written
+abbrev pub invariant-loop-progress : goal.invariant-loop-progress
+invariant-loop-progress l = TakesFrom l.initial.progress l.input l.initial.out l.progress l.out
 
-abbrev pub decreases-loop-i : goal.decreases-loop-i
-decreases-loop-i l = length l.input - l.i
+abbrev pub decreases-loop-progress : goal.decreases-loop-progress
+decreases-loop-progress l = length l.input - l.progress.consumed

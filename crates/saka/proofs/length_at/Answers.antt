@@ -12,5 +12,5 @@ returns-then-p-gt11 c = no_length (years saka) c.args.i c.args.p (omega (arith, 
 
 pub returns : goal.returns
 returns c =
-    let l = c.counted_length.ensures ∙ saka_length_lem (gregorian_long c.counted_year.result) c.args.p (omega arith) in
-    (kind_month saka_kind c.args.i c.args.p _ _ _ _ (omega arith) refl refl refl (rw c.counted_year.ensures at l)).length_is
+    let l = c.counted_length.ensures.0 ∙ saka_length_lem (gregorian_long c.counted_year.result) c.args.p (omega arith) in
+    (c.counted_length.ensures.1, (kind_month saka_kind c.args.i c.args.p _ _ _ _ (omega arith) refl refl refl (rw c.counted_year.ensures at l)).length_is)

@@ -1,14 +1,8 @@
-use Prim.Native.Nat.{◌-◌}
-use native.Mathlib.Omega.{arith}
-use lib.IntN.{pos}
-use Rattle.counting.specs.Answers.{years}
-use Rattle.months.specs.Parts.{coptic_from}
-use Rattle.months.proofs.Dates.{later_place}
 use Rattle.months.proofs.Thirties.{coptic_date}
 use Rattle.thirties.proofs.coptic_date.Goals as goal
 
 pub returns : goal.returns
 returns c =
-    let f = c.args.first in
-    let p = c.place_in.ensures in
-    later_place (years (coptic_from f)) (pos 1) f c.args.day _ _ _ (omega arith) (coptic_date f (c.args.day - f) _ _ _ p.0 p.1 p.2)
+    let n = c.in_ok-n.ensures in
+    let p = rw c.from.ensures at c.by_thirties.ensures in
+    (n.0, rw (← n.1) (coptic_date c.args.first c.in_ok-n.n _ _ _ p.0 p.1 p.2))

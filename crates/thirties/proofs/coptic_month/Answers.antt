@@ -1,15 +1,9 @@
-use native.Mathlib.Omega.{arith}
-use Rattle.counting.specs.Answers.{years}
-use Rattle.months.specs.Parts.{coptic_from}
-use Rattle.months.proofs.Dates.{no_month_lem}
-use Rattle.months.proofs.Thirties.{coptic_positions, coptic_month}
+use Rattle.months.proofs.Thirties.{coptic_month}
 use Rattle.thirties.proofs.coptic_month.Goals as goal
 
 -- `thirties::coptic_month` meets its contract.
-pub returns-then-p-gt12 : goal.returns-then-p-gt12
-returns-then-p-gt12 c =
-    let f = c.args.first in
-    no_month_lem (years (coptic_from f)) f c.args.i c.args.p 0 (omega (arith, coptic_positions f c.args.i))
-
 pub returns : goal.returns
-returns c = coptic_month c.args.first c.args.i c.args.p _ (omega arith) (c.coptic_length.ensures c.args.first)
+returns c =
+    let found = c.in_ok-days.ensures in
+    let days = found.0 c.args.first in
+    (days.0, rw (c.from.ensures, c.from-2.ensures) (coptic_month c.args.first c.args.i c.args.p _ found.1 days.1))

@@ -1,10 +1,6 @@
--- The front of the buffer has the lengths so far, and `rest` is the remainder that is carried.
-use Prim.Native.Nat.{◌≤◌, ◌-◌}
+-- The front of the lengths is written, and `rest` is the remainder that is carried.
 use Rattle.unfolding.proofs.Writing.{Front}
 use Rattle.unfolding.proofs.write_lengths.Given as goal
 
-abbrev pub invariant-loop-k : goal.invariant-loop-k
-invariant-loop-k l = (l.k ≤ l.count) × Front l.a l.b l.r l.initial.buffer l.buffer l.rest l.k
-
-abbrev pub decreases-loop-k : goal.decreases-loop-k
-decreases-loop-k l = l.count - l.k
+abbrev pub invariant-loop-length : goal.invariant-loop-length
+invariant-loop-length l = Front l.line.a l.line.b l.line.r l.initial.lengths l.lengths l.rest l.length-index

@@ -5,6 +5,7 @@ use lib.IntN.{ℤ, pos, ◌-ℤ◌}
 use mir.Syntax.{w64}
 use mir.Val.{to_z, of_z}
 use mir.ValLaws.{to_z-of_z}
+use Rattle.std.proofs.lemmas.Result.{err_from_is_err_and}
 use Rattle.counting.specs.Answers.{DayAnswer}
 use Rattle.calendar_rules.specs.Answers.{day_answer_with}
 use Rattle.frames.specs.declared.Frame.{Frame}
@@ -22,17 +23,18 @@ answered f y a e h =
     rw e (to_z-of_z w64 _ (small (min f.year 65536) 4711 (omega arith) (omega arith))) in
     ap (λ (x : DayAnswer). against x f.number) (sym (held f.calendar f.year f.month f.day) ∙ sym (rw year at h))
 
-pub returns-then-day-f : goal.returns-then-day-f
-returns-then-day-f c =
-    let f = c.args.f in
+pub returns-then-day-frame : goal.returns-then-day-frame
+returns-then-day-frame c =
+    let f = c.args.frame in
     sym
-    (answered f _ _ c.year_of.ensures c.in-Number.ensures
-    ∙ ap (λ (n : ℕ). against (record { number = 0; day = n }) f.number) c.if-day-f.true
+    (answered f _ _ c.year_of.ensures c.in_ok-day.ensures
+    ∙ ap (λ (n : ℕ). against (record { number = 0; day = n }) f.number) c.if-day-frame.true
     ∙ same_day f.number)
 
-pub returns-else-day-f : goal.returns-else-day-f
-returns-else-day-f c = sym (answered c.args.f _ _ c.year_of.ensures c.in-Number.ensures ∙ other_day _ _ c.if-day-f.false)
+pub returns-else-day-frame : goal.returns-else-day-frame
+returns-else-day-frame c = sym (answered c.args.frame _ _ c.year_of.ensures c.in_ok-day.ensures ∙ other_day _ _ c.if-day-frame.false)
 
-pub returns-in-Refused : goal.returns-in-Refused
-returns-in-Refused c =
-    sym (answered c.args.f _ _ c.year_of.ensures c.in-Refused.ensures ∙ refused c.in-Refused.why c.args.f.number)
+pub returns-in_err-day : goal.returns-in_err-day
+returns-in_err-day c =
+    let p = err_from_is_err_and c.from_residual.result c.from_residual.ensures.1 in
+    rw (p.1, p.2) (sym (answered c.args.frame _ _ c.year_of.ensures c.in_err-day.ensures ∙ refused c.in_err-day.field-0.0 c.args.frame.number))

@@ -1,14 +1,12 @@
-use mathlib.Core.Path.{sym, ap, ◌∙◌}
-use Rattle.frames.proofs.Claims.{is_fields, is_malformed}
-use Rattle.verdicts.specs.Verdict.{verdict_on}
-use Rattle.verdicts.proofs.Verdicts.{no_frame, frame}
+use Rattle.std.proofs.Common.{◌∙◌}
+use Rattle.std.proofs.lemmas.Result.{err_from_is_err_and}
+use Rattle.verdicts.proofs.Verdicts.{read_frame, read_none}
 use Rattle.verdicts.proofs.judge_line.Goals as goal
 
-pub returns-in-Fields : goal.returns-in-Fields
-returns-in-Fields c =
-    let line = c.args.line.now in
-    let r = is_fields line c.in-Fields.f c.in-Fields.ensures in
-    c.judge_frame.ensures ∙ ap verdict_on r.1 ∙ sym (frame line r.0)
+pub returns-in_err-frame : goal.returns-in_err-frame
+returns-in_err-frame c =
+    let p = err_from_is_err_and c.from_residual.result c.from_residual.ensures.1 in
+    rw (p.1, p.2) (read_none c.args.line.now c.read.result c.in_err-frame.field-0.0 c.read.ensures c.in_err-frame.ensures.value)
 
-pub returns-in-Malformed : goal.returns-in-Malformed
-returns-in-Malformed c = sym (no_frame c.args.line.now (is_malformed c.args.line.now c.in-Malformed.ensures))
+pub returns : goal.returns
+returns c = c.judge_frame.ensures ∙ read_frame c.args.line.now c.read.result c.in_ok-frame.frame c.read.ensures c.in_ok-frame.ensures.value

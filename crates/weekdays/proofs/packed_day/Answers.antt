@@ -7,5 +7,5 @@ use Rattle.weekdays.proofs.packed_day.Goals as goal
 pub returns : goal.returns
 returns c =
     c.tried.ensures
-    ∙ packed_with c.args.calendar c.args.year c.args.month c.args.day c.args.weekday c.packed_day.result
+    ∙ packed_with c.args.calendar c.args.year c.args.month c.args.day c.args.weekday c.packed_day.result.number
     (rw (to_z-of_z w64 c.args.year c.ranges.year) at c.packed_day.ensures)

@@ -1,16 +1,9 @@
-use mathlib.Core.Path.{refl}
-use lib.ListN.{drop}
-use Rattle.basics.specs.Every.{every}
-use Rattle.words.specs.Text.{bytes, lower, same}
-use Rattle.words.specs.Names.{weekday_names, name_of}
-use Rattle.words.specs.Words.{small_letter, packed_from}
-use Rattle.words.specs.Inner.{letters_in}
-use Rattle.words.proofs.Tables.{all_rows, packed_table, name_written}
+use mathlib.Core.Path.{refl, ◌∙◌}
+use Rattle.words.specs.Text.{bytes}
+use Rattle.words.specs.Names.{weekday_names}
+use Rattle.words.proofs.Tables.{name_found}
 use Rattle.words.proofs.weekday_name.Goals as goal
 
 pub returns : goal.returns
-unfolding every all_rows weekday_names name_of bytes lower small_letter packed_from same letters_in
-returns c =
-    let w = c.write_at in
-    let n = name_written (packed_table weekday_names 0 8) weekday_names refl refl c.args.weekday (drop w.result c.args.out.now) w.ensures.0 w.ensures.1 in
-    record { written = n.0; size = n.1.0; within = n.1.1.0; front = n.1.1.1 }
+unfolding weekday_names bytes
+returns c = c.name_at.ensures ∙ name_found _ weekday_names refl c.args.weekday

@@ -1,0 +1,2 @@
+-- lemmas that several proofs share
+mod Lengths
