@@ -6,9 +6,9 @@ use std::io::Write;
 
 // 0 and the numbers.
 fn write_done(out: &mut impl Write, numbers: &[u64]) -> io::Result<()> {
-    write!(out, "0")?;
+    out.write_all(b"0")?;
     printing::write_numbers(out, numbers)?;
-    writeln!(out)
+    out.write_all(b"\n")
 }
 
 pub(crate) fn answer_fit(out: &mut impl Write, code: &[u64]) -> io::Result<()> {

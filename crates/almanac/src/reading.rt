@@ -67,6 +67,16 @@ impl Token {
         }
     }
 
+    // Begins the next token. The places of the bytes shown are not cleared.
+    fn clear(&mut self) {
+        self.meaning = Meaning {
+            number: Number::Empty,
+            word: Word::new(),
+        };
+        self.shown.clear();
+        self.is_cut = false;
+    }
+
     fn push(&mut self, byte: u8) {
         self.meaning.number.push(byte);
         self.meaning.word.push(byte);
@@ -139,6 +149,20 @@ impl Line {
         }
     }
 
+    // Begins the next line. The places of the numbers are not cleared.
+    fn clear(&mut self)
+        ensures { self.new.is_begun ≡ false }
+    {
+        self.is_begun = false;
+        self.progress = Progress::Empty;
+        self.token.clear();
+        self.place = 0;
+        self.numbers.clear();
+        self.year = None;
+        self.weekday = 0;
+        self.all = false;
+    }
+
     // Blanks end a token; so does a newline, which an argument may have.
     fn push(&mut self, byte: u8) {
         match byte {
@@ -164,7 +188,7 @@ impl Line {
             },
         };
         if !self.is_wrong() {
-            self.token = Token::new();
+            self.token.clear();
         }
     }
 
@@ -222,7 +246,7 @@ impl RequestLine for Line {
     fn answer(&mut self, out: &mut impl Write) -> io::Result<()> {
         self.end_token();
         answers::answer(out, self)?;
-        *self = Line::new();
+        self.clear();
         Ok(())
     }
 }

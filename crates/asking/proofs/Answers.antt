@@ -507,6 +507,10 @@ module _ {c : ℕ} {K : Calendar} (l : Listed c K) (n : ℕ) where
       let D = p.1.1 in
       rw e ((λ z. omega (arith, month_from_1 p.1.0 p.0, ap (λ (a : DateAnswer). a.month) e, z)), D.year, D.month, D.day)
 
+-- a day before the first has no place
+pub early_place : (K : Calendar) (n : ℕ) → n < K.first_day → PlaceAt K n S.None
+early_place K n h = h
+
 -- the date of a day that is not too late
 pub to_last : (K : Calendar) {last n : ℕ} (found : S.Option Place) → n ≤ last → PlaceAt K n found → PlaceTo K last n found
 to_last K None h p = inl p
@@ -548,3 +552,16 @@ module _ (c n : ℕ) where
       in_range_lem K true u h = absurd (h refl)
       in_range_lem K false true h = absurd (h refl)
       in_range_lem K false false h = (refl, refl)
+
+-- why there is no position is 1, 2 or 3
+pub none_within : (c : ℕ) (y : ℤ) → (1 ≤ none_number c y) × (none_number c y ≤ 3)
+unfolding none_number
+none_within c y = go (calendar c)
+  where
+    in_year : (t : Bool) → (1 ≤ cond {A = ℕ} t 2 3) × (cond {A = ℕ} t 2 3 ≤ 3)
+    in_year true = omega arith
+    in_year false = omega arith
+
+    go : (o : Option Calendar) → (1 ≤ of_listed o 1 (λ K. cond (year_out K y) 2 3)) × (of_listed o 1 (λ K. cond (year_out K y) 2 3) ≤ 3)
+    go Option.none = omega arith
+    go (Option.some K) = in_year (year_out K y)

@@ -97,8 +97,8 @@ impl From<PackedDay> for DayFields {
     }
 }
 
-// The day of a date: by its one number. Hebrew dates without a weekday are asked for apart: the compiler
-// then keeps the Hebrew part a function of its own, and the other calendars need not save the registers that it uses.
+// The day of a date: by its one number. Hebrew dates are asked for apart: the Hebrew part stays a function of its own, and the other calendars need not save the
+// registers that it uses.
 #[unsafe(no_mangle)]
 pub extern "C" fn ijok_date_to_day(
     calendar: u64,
@@ -109,8 +109,8 @@ pub extern "C" fn ijok_date_to_day(
 ) -> DayFields
     ensures { day_fields result ≡ day_answer_with calendar year month day weekday }
 {
-    if calendar == HEBREW && weekday == 0 {
-        return DayFields::from(numbering::hebrew_day(year, month, day));
+    if calendar == HEBREW {
+        return DayFields::from(weekdays::hebrew_day(year, month, day, weekday));
     }
     DayFields::from(weekdays::packed_day(calendar, year, month, day, weekday))
 }

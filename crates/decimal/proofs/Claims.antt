@@ -8,6 +8,8 @@ use lib.ListN.{length, get_or}
 use lib.IntN.{ℤ, pos, negsuc}
 use mir.Syntax.{w64}
 use mir.Val.{SFits}
+use Rattle.std.specs.Prelude.{decimal}
+use Rattle.std.specs.Fmt.{signed_decimal}
 use Rattle.decimal.specs.declared.Number.{Number}
 use Rattle.decimal.specs.declared.Number.TheVariants.{Empty, Natural, Negative}
 use Rattle.decimal.specs.Decimal.{all_digits, value_from, value, number_of, pushed, clamp, integer_of, text, signed_text}
@@ -72,3 +74,11 @@ no_leading_zero n h = laws.no_leading_zero 20 n (omega arith)
 pub signed_length : (z : ℤ) → SFits w64 z → length (signed_text z) ≤ 20
 signed_length (pos n) f = laws.length_most 20 n
 signed_length (negsuc n) f = omega (arith, laws.length_fewest 20 (suc n) 19 (omega arith) (omega (arith, f.sfits)))
+
+-- it is what std writes of a number, as `write!` does, so that all of this holds of what is written so
+pub shown : (n : ℕ) → n < 2 ^ 64 → text n ≡ decimal n
+shown = laws.shown
+
+pub signed_shown : (z : ℤ) → SFits w64 z → signed_text z ≡ signed_decimal z
+signed_shown (pos n) f = laws.shown n (omega (arith, f.sfits))
+signed_shown (negsuc n) f = ap (λ (s : List ℕ). 45 ∷ s) (laws.shown (suc n) (omega (arith, f.sfits)))

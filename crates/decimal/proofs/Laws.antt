@@ -12,12 +12,14 @@ use lib.IntN.{ℤ, pos, negsuc, nat_abs}
 use lib.Signed.{lt_z}
 use lib.Seq.{take-suc}
 use lib.ListN.{length, take, get_or, length-append, get_or-append}
-use borrow.Author.Tests.{ltb-true, leb-true, le-leb, lt-ltb, le-ltb, ne_eqb}
+use borrow.Author.Tests.{ltb-true, leb-true, le-leb, lt-leb, lt-ltb, le-ltb, eq-eqb, ne_eqb}
+use Rattle.std.specs.Prelude.{decimal}
+use Rattle.std.proofs.lemmas.Fmt.{decimal_from_appends, length-decimal-le}
 use Rattle.basics.proofs.Cases.{both}
 use Rattle.basics.proofs.Order.{le_or_lt}
 use Rattle.decimal.specs.declared.Number.{Number}
 use Rattle.decimal.specs.declared.Number.TheVariants.{Sign, Natural, Negative, Other}
-use Rattle.decimal.specs.Decimal.{is_digit, all_digits, value_from, value, capped, behind_minus, number_of, pushed}
+use Rattle.decimal.specs.Decimal.{is_digit, all_digits, value_from, value, capped, behind_minus, number_of, with_digit, with_minus, pushed}
 use Rattle.decimal.specs.Decimal.{digits_in, text, signed_text}
 
 -- ---- digits
@@ -56,6 +58,23 @@ same false a = refl
 pub stays : (b : ℕ) → pushed Other b ≡ Other
 unfolding pushed
 stays b = rw (same (is_digit b) Other, same (eqb b 45) Other)
+
+-- one byte more, by what it is
+pub pushed_minus : (number : Number) (b : ℕ) → b ≡ 45 → pushed number b ≡ with_minus number
+unfolding pushed
+pushed_minus number b e = rw (eq-eqb b 45 e)
+
+pub pushed_digit : (number : Number) (b : ℕ) → 48 ≤ b → b ≤ 57 → pushed number b ≡ with_digit number (b - 48)
+unfolding pushed
+pushed_digit number b l h = rw (ne_eqb b 45 (λ e. omega arith), le-leb 48 b l, le-leb b 57 h)
+
+pub pushed_below : (number : Number) (b : ℕ) → (b ≡ 45 → ⊥) → b < 48 → pushed number b ≡ Other
+unfolding pushed
+pushed_below number b n h = rw (ne_eqb b 45 n, lt-leb 48 b h)
+
+pub pushed_above : (number : Number) (b : ℕ) → 57 < b → pushed number b ≡ Other
+unfolding pushed
+pushed_above number b h = rw (ne_eqb b 45 (λ e. omega arith), le-leb 48 b (omega arith), lt-leb b 57 h)
 
 -- one byte more behind digits, of which `wrap` makes a number
 module _ (wrap : ℕ → Number) where
@@ -197,7 +216,15 @@ no_leading_zero =
         let a = get_or-append (digits_in (suc most) (n / 10)) ((48 + n % 10) ∷ []) 0 0 p in
         omega (arith, e (omega (arith, pow-suc 10 (suc most))) (sym a ∙ z))
 
+-- it is what std writes of a number
+pub shown : (n : ℕ) → n < 2 ^ 64 → text n ≡ decimal n
+shown n h = decimal_from_appends digits_in (record { one = one_digit; more = more_digits }) 20 n h (length-decimal-le 20 n (omega arith) (omega arith) h)
+
 -- the text of a signed number
 pub negative_text : (z : ℤ) → lt_z z (pos 0) ≡ true → signed_text z ≡ 45 ∷ text (nat_abs z)
 negative_text (pos n) h = absurd (omega (arith, ltb-true n 0 h))
 negative_text (negsuc n) h = refl
+
+pub plain_text : (z : ℤ) → lt_z z (pos 0) ≡ false → signed_text z ≡ text (nat_abs z)
+plain_text (pos n) h = refl
+plain_text (negsuc n) h = let z : ◌≡◌ {A = ℕ} 0 1 = cc in absurd (omega arith)

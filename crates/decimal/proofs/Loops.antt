@@ -1,7 +1,8 @@
--- What the loop of `Digits::from` keeps: the digits of the rest, and then those that are written, are the text. Each round keeps it.
+-- What the loop of `Digits::from` keeps: the digits of the rest, and then those that are written, are the text, and the rest has room. Each round keeps it.
 use mathlib.Core.Path.{◌≡◌, sym, ap, ◌∙◌}
 use mathlib.Core.List.{List, ◌∷◌, ◌++◌}
-use Prim.Native.Nat.{ℕ, suc, ◌+◌, ◌/◌, ◌%◌, ◌<◌}
+use Prim.Native.Nat.{ℕ, zero, suc, ◌+◌, ◌/◌, ◌%◌, ◌^◌, ◌≤◌, ◌<◌}
+use native.Mathlib.Nat.{pow-suc}
 use native.Mathlib.Omega.{arith}
 use lib.ListN.{length, take, drop, set}
 use lib.Seq.{append_snoc, set_split, drop_at, length-take-le}
@@ -11,6 +12,15 @@ use Rattle.decimal.proofs.Laws.{one_digit, more_digits}
 pub record Written (n : ℕ) (bytes : List ℕ) (rest start : ℕ) : Type 0 where
   pub size : length bytes ≡ 20
   pub all : digits_in start rest ++ drop start bytes ≡ text n
+  pub room : rest < 10 ^ start
+
+-- a rest of more than one digit has another place
+pub before : (start rest : ℕ) → rest < 10 ^ suc start → 10 ≤ rest → 1 ≤ start
+before zero rest l h = absurd (omega arith)
+before (suc start) rest l h = omega arith
+
+pub shorter : (start rest : ℕ) → rest < 10 ^ suc start → rest / 10 < 10 ^ start
+shorter start rest l = omega (arith, pow-suc 10 start)
 
 -- a byte at the place before
 pub placed : (bytes : List ℕ) (at b : ℕ) → at < length bytes → drop at (set bytes at b) ≡ b ∷ drop (suc at) bytes

@@ -113,14 +113,15 @@ impl From<u64> for Digits {
     {
         let mut bytes = [b'0'; 20];
         let mut rest = n;
-        for start in (0..20).rev() {
+        // A `for` over the places has twenty turns, which the compiler unrolls, with all bytes in registers of their own: that took four times as long.
+        let mut start = 19;
+        while 10 <= rest {
             bytes[start] = b'0' + (rest % 10) as u8;
             rest /= 10;
-            if rest == 0 {
-                return Digits { bytes, start };
-            }
+            start -= 1;
         }
-        Digits { bytes, start: 0 }
+        bytes[start] = b'0' + (rest % 10) as u8;
+        Digits { bytes, start }
     }
 }
 

@@ -1,6 +1,7 @@
 // The answer to a request. Almanac's fits.rt answers refusals in other words, so the two stay apart.
+use arrayvec::ArrayVec;
 use codes::{Line, MOST_LENGTHS};
-use printing::write_numbers;
+use printing::{push_number, write_number, write_numbers};
 use std::io;
 use std::io::Write;
 
@@ -8,11 +9,19 @@ pub(crate) fn no_request(out: &mut impl Write) -> io::Result<()> {
     write!(out, "not a request")
 }
 
+// The answer number, a, b and r: put together and written at once.
 fn answer_fit(out: &mut impl Write, code: &[u64]) -> io::Result<()> {
-    match fitting::fit(code) {
-        Ok(line) => write!(out, "0 {} {} {}", line.a, line.b, line.r),
-        Err(why) => write!(out, "{} 0 0 0", u8::from(why)),
+    let (number, line) = match fitting::fit(code) {
+        Ok(line) => (0, line),
+        Err(why) => (u64::from(why), Line { a: 0, b: 0, r: 0 }),
+    };
+    let mut text: ArrayVec<u8, 83> = ArrayVec::new();
+    push_number(&mut text, number);
+    for n in [line.a, line.b, line.r] {
+        let _ = text.try_push(b' ');
+        push_number(&mut text, n);
     }
+    out.write_all(text.as_slice())
 }
 
 // Unfolds into a buffer of so many places, or of as many as a code may have, where they are fewer.
@@ -20,10 +29,10 @@ fn answer_unfold(out: &mut impl Write, line: Line, count: usize, room: usize) ->
     let mut lengths = [0; MOST_LENGTHS];
     match unfolding::unfold(line, count, &mut lengths[..room.min(MOST_LENGTHS)]) {
         Ok(()) => {
-            write!(out, "0")?;
+            out.write_all(b"0")?;
             write_numbers(out, &lengths[..count.min(MOST_LENGTHS)])
         }
-        Err(why) => write!(out, "{}", u8::from(why)),
+        Err(why) => write_number(out, u64::from(why)),
     }
 }
 

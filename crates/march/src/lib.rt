@@ -189,8 +189,8 @@ pub fn length_at<K: JulianKind>(i: u16, p: u64) -> Option<u64>
     if 11 < p {
         return None;
     }
-    let at = month_of(K::YEAR, K::TURN, i, p);
-    Some(month_length(february(at.year), at))
+    let month = month_of(K::YEAR, K::TURN, i, p);
+    Some(month_length(february(month.year), month))
 }
 
 // Such a position.

@@ -36,11 +36,15 @@ pub fn judge_frame(frame: Frame) -> Result<(), Refusal>
         day: frame.day,
         weekday: 0,
     };
-    let day = calendars::date_to_day(frame.calendar, date)?;
-    if day == frame.number {
-        Ok(())
-    } else {
-        Err(Refusal::WrongDay)
+    match calendars::date_to_day(frame.calendar, date) {
+        Ok(day) => {
+            if day == frame.number {
+                Ok(())
+            } else {
+                Err(Refusal::WrongDay)
+            }
+        }
+        Err(why) => Err(why),
     }
 }
 

@@ -33,6 +33,14 @@ fn tried(found: PackedDay, weekday: u64) -> PackedDay
     found
 }
 
+// The day of a Hebrew date with a weekday.
+#[inline(never)]
+pub fn hebrew_day(year: i64, month: u64, day: u64, weekday: u64) -> PackedDay
+    ensures { result.number ≡ packed_day (day_answer_with 18 year month day weekday) }
+{
+    tried(numbering::hebrew_day(year, month, day), weekday)
+}
+
 // The day of a date with a weekday, 0 for none, as `day_answer_with` and the C interface have it. Plain arguments, as C hands them over (`calendars::Date` stands
 // above).
 pub fn packed_day(calendar: u64, year: i64, month: u64, day: u64, weekday: u64) -> PackedDay

@@ -20,7 +20,7 @@ use Rattle.words.specs.Names.{number_named, name_beside, name_of, has_name}
 use Rattle.words.specs.Words.{all_letters, packed, word_of}
 use Rattle.words.specs.Packed.{spells, number_packed}
 use Rattle.words.specs.Tables.{name_in}
-use Rattle.words.specs.Inner.{equal, named_in}
+use Rattle.words.specs.Inner.{equal, packed_in, named_in}
 use Rattle.words.proofs.Packing.{letters_in, alike, same_true, same_self, packed_lowered, letters_lowered, length_lowered, letters_back}
 
 -- a test of every row of a table
@@ -74,22 +74,6 @@ named ((number, name) ∷ rest) t s = let p = both (is_name (bytes name)) (are_n
 
 -- ---- the tables of the code, whose rows are those of the quoted ones
 
--- the first word of a table, and what stands beside it
-abbrev beside : {A : Type 0} → List (Option A × List ℕ) → Word → Option A
-beside [] word = None
-beside ((value, name) ∷ rest) word = cond (equal (word_of name) word) value (beside rest word)
-
-find_beside : {A : Type 0} (t : List (A × Bor (List ℕ))) (word : Word)
-    → option_map (λ row. row.0) (find (λ row. equal (word_of row.1.now) word) t) ≡ beside (map (λ row. (Some row.0, row.1.now)) t) word
-find_beside [] word = refl
-find_beside ((value, name) ∷ rest) word = go (equal (word_of name.now) word) (find_beside rest word)
-  where
-    go : (x : Bool) → option_map (λ row. row.0) (find (λ row. equal (word_of row.1.now) word) rest) ≡ beside (map (λ row. (Some row.0, row.1.now)) rest) word
-        → option_map (λ row. row.0) (cond x (Some (value, name)) (find (λ row. equal (word_of row.1.now) word) rest))
-        ≡ cond x (Some value) (beside (map (λ row. (Some row.0, row.1.now)) rest) word)
-    go true e = refl
-    go false e = e
-
 pub equal_name : (name : String) → is_name (bytes name) ≡ true → (word : Word) → equal (word_of (bytes name)) word ≡ spells word name
 unfolding word_of spells
 equal_name name n word = let t = bytes name in rw (both (same (lowered t) t) (leb (length t) 12 && all_letters t) n).1 (go word)
@@ -98,30 +82,50 @@ equal_name name n word = let t = bytes name in rw (both (same (lowered t) t) (le
     go (Letters n) = refl
     go Other = refl
 
-beside_named : {A : Type 0} (f : Option ℕ → Option A) → f None ≡ None → (table : List (ℕ × String)) → are_names table ≡ true → (word : Word)
-    → beside (map (λ row. (f (Some row.0), bytes row.1)) table) word ≡ f (number_packed table word)
-unfolding all_rows number_packed
-beside_named f z [] t word = sym z
-beside_named f z ((number, name) ∷ rest) t word =
-    let p = both (is_name (bytes name)) (are_names rest) t in
-    rw (equal_name name p.0 word, beside_named f z rest p.1 word) (go (spells word name))
+-- the first packed name of a table that is a number, and what stands beside it
+abbrev beside : {A : Type 0} → List (Option A × ℕ) → ℕ → Option A
+beside [] n = None
+beside ((value, name) ∷ rest) n = cond (eqb name n) value (beside rest n)
+
+find_beside : {A : Type 0} (t : List (A × ℕ)) (n : ℕ)
+    → option_map (λ row. row.0) (find (λ row. eqb row.1 n) t) ≡ beside (map (λ row. (Some row.0, row.1)) t) n
+find_beside [] n = refl
+find_beside ((value, name) ∷ rest) n = go (eqb name n) (find_beside rest n)
   where
-    go : (x : Bool) → cond x (f (Some number)) (f (number_packed rest word)) ≡ f (cond x (Some number) (number_packed rest word))
+    go : (x : Bool) → option_map (λ row. row.0) (find (λ row. eqb row.1 n) rest) ≡ beside (map (λ row. (Some row.0, row.1)) rest) n
+        → option_map (λ row. row.0) (cond x (Some (value, name)) (find (λ row. eqb row.1 n) rest))
+        ≡ cond x (Some value) (beside (map (λ row. (Some row.0, row.1)) rest) n)
+    go true e = refl
+    go false e = e
+
+beside_named : {A : Type 0} (f : Option ℕ → Option A) → f None ≡ None → (table : List (ℕ × String)) (n : ℕ)
+    → beside (map (λ row. (f (Some row.0), packed (bytes row.1))) table) n ≡ f (number_packed table (Letters n))
+unfolding number_packed spells
+beside_named f z [] n = sym z
+beside_named f z ((number, name) ∷ rest) n = rw (beside_named f z rest n) (go (eqb (packed (bytes name)) n))
+  where
+    go : (x : Bool) → cond x (f (Some number)) (f (number_packed rest (Letters n))) ≡ f (cond x (Some number) (number_packed rest (Letters n)))
     go true = refl
     go false = refl
 
--- what stands in a table of the code; and in a quoted one, where a row's number is another value
-abbrev pub rows : {A : Type 0} → List (A × Bor (List ℕ)) → List (Option A × List ℕ)
-rows {A} t = map {B = Option A × List ℕ} (λ row. (Some row.0, row.1.now)) t
+no_word : (table : List (ℕ × String)) → number_packed table Other ≡ None
+unfolding number_packed spells
+no_word [] = refl
+no_word ((number, name) ∷ rest) = no_word rest
 
-abbrev pub quoted : {A : Type 0} → (Option ℕ → Option A) → List (ℕ × String) → List (Option A × List ℕ)
-quoted {A} f table = map {B = Option A × List ℕ} (λ row. (f (Some row.0), bytes row.1)) table
+-- what stands in a table of the code; and in a quoted one, whose names are packed and where a row's number is another value
+abbrev pub rows : {A : Type 0} → List (A × ℕ) → List (Option A × ℕ)
+rows {A} t = map {B = Option A × ℕ} (λ row. (Some row.0, row.1)) t
+
+abbrev pub quoted : {A : Type 0} → (Option ℕ → Option A) → List (ℕ × String) → List (Option A × ℕ)
+quoted {A} f table = map {B = Option A × ℕ} (λ row. (f (Some row.0), packed (bytes row.1))) table
 
 -- what the code finds beside a word
-pub found : {A : Type 0} (f : Option ℕ → Option A) (t : List (A × Bor (List ℕ))) (table : List (ℕ × String)) → f None ≡ None → are_names table ≡ true
+pub found : {A : Type 0} (f : Option ℕ → Option A) (t : List (A × ℕ)) (table : List (ℕ × String)) → f None ≡ None
     → rows t ≡ quoted f table → (word : Word) → named_in t word ≡ f (number_packed table word)
-unfolding named_in
-found f t table z n e word = find_beside t word ∙ ap (λ x. beside x word) e ∙ beside_named f z table n word
+unfolding packed_in
+found f t table z e (Letters n) = find_beside t n ∙ ap (λ x. beside x n) e ∙ beside_named f z table n
+found f t table z e Other = sym z ∙ ap f (sym (no_word table))
 
 -- the first name beside a number
 abbrev at : List (ℕ × List ℕ) → ℕ → Option (List ℕ)

@@ -1,9 +1,8 @@
 -- For code: what the private functions answer. Nobody has to believe this page.
 use Rattle.std.specs.Prelude.{List, Bool, true, false, ℕ, cond, ltb, eqb, Option, Some, None, option_map, find}
-use Rattle.std.specs.Borrow.{Bor}
 use Rattle.words.specs.declared.Word.{Word}
 use Rattle.words.specs.declared.Word.TheVariants.{Letters, Other}
-use Rattle.words.specs.Words.{letter_of, word_of}
+use Rattle.words.specs.Words.{letter_of}
 
 -- the number of a letter, where it is one
 abbrev pub letter_if_any : ℕ → Option ℕ
@@ -16,6 +15,11 @@ equal (Letters m) Other = false
 equal Other (Letters n) = false
 equal Other Other = true
 
--- what stands in a table beside the first name that a word is
-unfoldable pub named_in : {A : Type 0} → List (A × Bor (List ℕ)) → Word → Option A
-named_in table word = option_map (λ row. row.0) (find (λ row. equal (word_of row.1.now) word) table)
+-- what stands in a table beside a packed name
+unfoldable pub packed_in : {A : Type 0} → List (A × ℕ) → ℕ → Option A
+packed_in table n = option_map (λ row. row.0) (find (λ row. eqb row.1 n) table)
+
+-- and beside the name that a word is
+abbrev pub named_in : {A : Type 0} → List (A × ℕ) → Word → Option A
+named_in table (Letters n) = packed_in table n
+named_in table Other = None

@@ -7,7 +7,7 @@ ghost use Rattle.words.specs.Names.{calendar_names, weekday_names, request_names
 ghost use Rattle.words.specs.Words.{word_of};
 ghost use Rattle.words.specs.Packed.{pushed, spells, number_packed, request_packed};
 ghost use Rattle.words.specs.Tables.{name_in};
-ghost use Rattle.words.specs.Inner.{letter_if_any, named_in};
+ghost use Rattle.words.specs.Inner.{letter_if_any, packed_in, named_in};
 
 // The names of the calendars, each beside the number by which `calendars` and the C interface know it.
 const CALENDARS: [(u64, &str); 16] = [
@@ -29,6 +29,26 @@ const CALENDARS: [(u64, &str); 16] = [
     (18, "hebrew"),
 ];
 
+// The same names as packed words, each beside its calendar: a word is found by comparing numbers, and no name is packed again.
+const CALENDAR_WORDS: [(u64, u64); 16] = [
+    (1, 180171187246), // egyptian
+    (2, 54129009710), // armenian
+    (3, 12691716736197678), // khwarizmian
+    (4, 17367147566), // persian
+    (5, 6193661092910), // ethiopian
+    (6, 116936995), // coptic
+    (7, 639388640119854), // republican
+    (8, 458604947121198), // macedonian
+    (9, 664347694), // syrian
+    (10, 357966894), // julian
+    (11, 8320676602926), // gregorian
+    (12, 10561372065633), // islamic-a
+    (13, 10561372065634), // islamic-b
+    (14, 2138153), // bahai
+    (15, 623969), // saka
+    (18, 273762487), // hebrew
+];
+
 const WEEKDAYS: [(u64, &str); 7] = [
     (1, "monday"),
     (2, "tuesday"),
@@ -37,6 +57,16 @@ const WEEKDAYS: [(u64, &str); 7] = [
     (5, "friday"),
     (6, "saturday"),
     (7, "sunday"),
+];
+
+const WEEKDAY_WORDS: [(u64, u64); 7] = [
+    (1, 452399161), // monday
+    (2, 22185349177), // tuesday
+    (3, 25465336729657), // wednesday
+    (4, 696508846137), // thursday
+    (5, 220500025), // friday
+    (6, 654602473529), // saturday
+    (7, 660017209), // sunday
 ];
 
 // What is asked.
@@ -54,20 +84,20 @@ pub enum Request {
     Help,
 }
 
-// Help has three names.
-const REQUESTS: [(Request, &str); 12] = [
-    (Request::Day, "day"),
-    (Request::Date, "date"),
-    (Request::Months, "months"),
-    (Request::Easter, "easter"),
-    (Request::Frame, "frame"),
-    (Request::Fit, "fit"),
-    (Request::Unfold, "unfold"),
-    (Request::Calendars, "calendars"),
-    (Request::Answers, "answers"),
-    (Request::Help, "help"),
-    (Request::Help, "--help"),
-    (Request::Help, "-h"),
+// Help has three names. (Nothing writes them, so they stand packed alone.)
+const REQUEST_WORDS: [(Request, u64); 12] = [
+    (Request::Day, 4153), // day
+    (Request::Date, 132741), // date
+    (Request::Months, 452415763), // months
+    (Request::Easter, 169463986), // easter
+    (Request::Frame, 6882725), // frame
+    (Request::Fit, 6452), // fit
+    (Request::Unfold, 719535492), // unfold
+    (Request::Calendars, 3345962108499), // calendars
+    (Request::Answers, 1564186195), // answers
+    (Request::Help, 267664), // help
+    (Request::Help, 934548880), // --help
+    (Request::Help, 872), // -h
 ];
 
 // What some bytes are, read so far. Packed, 5 bits a letter, and no Option: `word_of` and the claims on it are of this type, and say that packing loses nothing.
@@ -136,15 +166,22 @@ impl From<&[u8]> for Word {
     }
 }
 
-// What stands in a table beside the first name that a word is.
-#[tactic(auto, unfolding(crate::specs::Inner::named_in))]
-fn named<T: Copy>(table: &[(T, &str)], word: Word) -> Option<T>
+// What stands in a table beside a packed name.
+#[tactic(auto, unfolding(crate::specs::Inner::packed_in))]
+fn with_packed<T: Copy>(table: &[(T, u64)], packed: u64) -> Option<T>
+    ensures { result ≡ packed_in table.now packed }
+{
+    table.iter().find(|row| row.1 == packed).map(|row| row.0)
+}
+
+// What stands in a table beside the name that a word is.
+fn named<T: Copy>(table: &[(T, u64)], word: Word) -> Option<T>
     ensures { result ≡ named_in table.now word }
 {
-    table
-        .iter()
-        .find(|row| Word::from(row.1.as_bytes()) == word)
-        .map(|row| row.0)
+    match word {
+        Word::Letters(packed) => with_packed(table, packed),
+        Word::Other => None,
+    }
 }
 
 // The first name beside a number in a table.
@@ -159,21 +196,21 @@ pub fn name_at(table: &[(u64, &'static str)], number: u64) -> Option<&'static st
 pub fn calendar(word: Word) -> Option<u64>
     ensures { result ≡ number_packed calendar_names word }
 {
-    named(&CALENDARS, word)
+    named(&CALENDAR_WORDS, word)
 }
 
 // The weekday that a word names, 1 Monday to 7 Sunday.
 pub fn weekday(word: Word) -> Option<u64>
     ensures { result ≡ number_packed weekday_names word }
 {
-    named(&WEEKDAYS, word)
+    named(&WEEKDAY_WORDS, word)
 }
 
 // The request that a word names.
 pub fn request_of(word: Word) -> Option<Request>
     ensures { result ≡ request_packed word }
 {
-    named(&REQUESTS, word)
+    named(&REQUEST_WORDS, word)
 }
 
 // A calendar's name.

@@ -1,9 +1,8 @@
-use Rattle.std.proofs.Common.{◌≡◌, sym, ap, ◌∙◌, ℕ, ◌/◌, ◌%◌, arith}
+use Rattle.std.proofs.Common.{◌≡◌, ◌∙◌, ℕ, ◌/◌, ◌%◌, arith}
 use lib.IntN.{ℤ}
 use mir.Syntax.{w64}
 use mir.ValLaws.{to_z-of_z}
 use Rattle.calendar_rules.specs.Answers.{day_answer_with}
-use Rattle.calendar_rules.proofs.Claims.{no_weekday}
 use Rattle.asking.specs.Steps.{packed_day}
 use Rattle.asking.proofs.Answers.{fields}
 use Rattle.c_dates.specs.declared.DayFields.{DayFields}
@@ -15,14 +14,11 @@ split : (c : ℕ) (y : ℤ) (m d w r : ℕ) (x : DayFields) → (x.number ≡ r 
     → day_fields x ≡ day_answer_with c y m d w
 split c y m d w r x p e = (λ i. record { number = p.0 i; day = p.1 i }) ∙ fields c y m d w r e
 
-pub returns-then-weekday-eq0 : goal.returns-then-weekday-eq0
-returns-then-weekday-eq0 c =
+pub returns-then-calendar-eq-HEBREW : goal.returns-then-calendar-eq-HEBREW
+returns-then-calendar-eq-HEBREW c =
     let a = c.args in
     let e : a.calendar ≡ 18 = omega arith in
-    let f : a.weekday ≡ 0 = omega arith in
-    rw (e, f)
-    (split 18 a.year a.month a.day 0 c.hebrew_day.result.number c.from.result c.from.ensures
-    ((rw (to_z-of_z w64 a.year c.ranges.year) at c.hebrew_day.ensures) ∙ ap packed_day (sym (no_weekday 18 a.year a.month a.day))))
+    rw e (split 18 a.year a.month a.day a.weekday c.hebrew_day.result.number c.from.result c.from.ensures (rw (to_z-of_z w64 a.year c.ranges.year) at c.hebrew_day.ensures))
 
 pub returns : goal.returns
 returns c =

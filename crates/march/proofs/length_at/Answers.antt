@@ -11,5 +11,5 @@ returns-then-p-gt11 g c =
 pub returns : goal.returns
 returns g c =
     let m = julian_month g.K.JulianKind.of_kind c.args.i c.args.p (omega arith) in
-    rw (c.month_length.ensures, c.february.ensures, c.month_of-at.ensures.month, c.month_of-at.ensures.year, c.YEAR.ensures, c.TURN.ensures)
+    rw (c.month_length.ensures, c.february.ensures, c.month_of-month.ensures.month, c.month_of-month.ensures.year, c.YEAR.ensures, c.TURN.ensures)
     ((length_small _ _).0, m.length_is)

@@ -5,7 +5,6 @@ use lib.IntN.{ℤ, pos, ◌-ℤ◌}
 use mir.Syntax.{w64}
 use mir.Val.{to_z, of_z}
 use mir.ValLaws.{to_z-of_z}
-use Rattle.std.proofs.lemmas.Result.{err_from_is_err_and}
 use Rattle.counting.specs.Answers.{DayAnswer}
 use Rattle.calendar_rules.specs.Answers.{day_answer_with}
 use Rattle.frames.specs.declared.Frame.{Frame}
@@ -27,14 +26,12 @@ pub returns-then-day-frame : goal.returns-then-day-frame
 returns-then-day-frame c =
     let f = c.args.frame in
     sym
-    (answered f _ _ c.year_of.ensures c.in_ok-day.ensures
+    (answered f _ _ c.year_of.ensures c.in-Ok.ensures
     ∙ ap (λ (n : ℕ). against (record { number = 0; day = n }) f.number) c.if-day-frame.true
     ∙ same_day f.number)
 
 pub returns-else-day-frame : goal.returns-else-day-frame
-returns-else-day-frame c = sym (answered c.args.frame _ _ c.year_of.ensures c.in_ok-day.ensures ∙ other_day _ _ c.if-day-frame.false)
+returns-else-day-frame c = sym (answered c.args.frame _ _ c.year_of.ensures c.in-Ok.ensures ∙ other_day _ _ c.if-day-frame.false)
 
-pub returns-in_err-day : goal.returns-in_err-day
-returns-in_err-day c =
-    let p = err_from_is_err_and c.from_residual.result c.from_residual.ensures.1 in
-    rw (p.1, p.2) (sym (answered c.args.frame _ _ c.year_of.ensures c.in_err-day.ensures ∙ refused c.in_err-day.field-0.0 c.args.frame.number))
+pub returns-in-Err : goal.returns-in-Err
+returns-in-Err c = sym (answered c.args.frame _ _ c.year_of.ensures c.in-Err.ensures ∙ refused c.in-Err.why c.args.frame.number)

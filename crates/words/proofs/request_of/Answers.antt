@@ -1,10 +1,10 @@
 use mathlib.Core.Path.{refl, ◌∙◌}
-use Rattle.words.specs.Text.{bytes, lower, lowered, same}
+use Rattle.words.specs.Text.{bytes, lower}
 use Rattle.words.specs.Names.{request_names, request_numbered}
-use Rattle.words.specs.Words.{small_letter, all_letters}
-use Rattle.words.proofs.Tables.{all_rows, found}
+use Rattle.words.specs.Words.{small_letter, packed_from}
+use Rattle.words.proofs.Tables.{found}
 use Rattle.words.proofs.request_of.Goals as goal
 
 pub returns : goal.returns
-unfolding all_rows request_names bytes lower lowered same small_letter all_letters
-returns c = c.named.ensures ∙ found request_numbered _ request_names refl refl refl c.args.word
+unfolding request_names bytes lower small_letter packed_from
+returns c = c.named.ensures ∙ found request_numbered _ request_names refl refl c.args.word
