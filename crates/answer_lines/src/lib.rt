@@ -9,6 +9,8 @@ ghost use Rattle.easter.specs.Paper.{easter_paper};
 ghost use Rattle.std.specs.Prelude.{◌≡◌};
 ghost use Rattle.texts.specs.Writing.{Writes, Counts};
 ghost use Rattle.texts.specs.Lines.{Adds};
+ghost use Rattle.texts.specs.Columns.{right_in};
+ghost use Rattle.decimal.specs.Decimal.{text, signed_text};
 ghost use Rattle.answer_lines.specs.Lines.{day_line, date_line, first_day_line, heading, date_columns, calendar_row};
 ghost use Rattle.answer_lines.specs.Lines.{easter_row, first_row, kind_name, position_row, answer_row};
 
@@ -22,6 +24,41 @@ use texts::Line;
 // The column of years: the least that has days, -4712, takes 5 bytes.
 const YEAR_WIDTH: usize = 5;
 
+// ---- numbers. `Digits` is filled in place: `Digits::from` would copy it once more.
+
+fn push_number(line: &mut Line, n: u64)
+    ensures { Adds (text n) line.old line.new }
+{
+    let mut digits = Digits::new();
+    digits.put(n);
+    line.push_text(digits.as_bytes());
+}
+
+fn push_year(line: &mut Line, year: i64)
+    ensures { Adds (signed_text year) line.old line.new }
+{
+    let mut digits = Digits::new();
+    digits.put_signed(year);
+    line.push_text(digits.as_bytes());
+}
+
+// The same at the right of a column.
+fn push_number_right(line: &mut Line, width: usize, n: u64)
+    ensures { Adds (right_in width (text n)) line.old line.new }
+{
+    let mut digits = Digits::new();
+    digits.put(n);
+    line.push_right(width, digits.as_bytes());
+}
+
+fn push_year_right(line: &mut Line, width: usize, year: i64)
+    ensures { Adds (right_in width (signed_text year)) line.old line.new }
+{
+    let mut digits = Digits::new();
+    digits.put_signed(year);
+    line.push_right(width, digits.as_bytes());
+}
+
 // ---- lines. Each says by itself what stands in place of an answer that is refused: one function for all would take a closure, whose clause would have to say what
 // it pushes, which is no shorter than the match.
 
@@ -30,7 +67,7 @@ fn push_day(line: &mut Line, answer: Result<u64, Refusal>)
 {
     match answer {
         Ok(day) => {
-            line.push_text(Digits::from(day).as_bytes());
+            push_number(line, day);
             line.push(b' ');
             push_weekday(line, weekdays::weekday_of(day));
         }
@@ -63,11 +100,11 @@ fn push_date(line: &mut Line, answer: Result<Date, Refusal>)
 {
     match answer {
         Ok(date) => {
-            line.push_text(Digits::from(date.year).as_bytes());
+            push_year(line, date.year);
             line.push(b' ');
-            line.push_text(Digits::from(date.month).as_bytes());
+            push_number(line, date.month);
             line.push(b' ');
-            line.push_text(Digits::from(date.day).as_bytes());
+            push_number(line, date.day);
             line.push(b' ');
             push_weekday(line, date.weekday);
         }
@@ -90,7 +127,7 @@ fn push_first_day(line: &mut Line, answer: Result<u64, Refusal>)
 {
     line.push_text(b"first day ");
     match answer {
-        Ok(day) => line.push_text(Digits::from(day).as_bytes()),
+        Ok(day) => push_number(line, day),
         Err(why) => push_refusal(line, why),
     }
 }
@@ -110,7 +147,7 @@ pub fn first_day_line(answer: Result<u64, Refusal>, buffer: &mut [u8]) -> usize
 fn push_heading(line: &mut Line, calendar: u64)
     ensures { Adds (heading calendar) line.old line.new }
 {
-    line.push_right(2, Digits::from(calendar).as_bytes());
+    push_number_right(line, 2, calendar);
     line.push(b' ');
     push_calendar(line, calendar);
     line.push(b' ');
@@ -119,11 +156,11 @@ fn push_heading(line: &mut Line, calendar: u64)
 fn push_columns(line: &mut Line, year: i64, month: u64, day: u64)
     ensures { Adds (date_columns year month day) line.old line.new }
 {
-    line.push_right(YEAR_WIDTH, Digits::from(year).as_bytes());
+    push_year_right(line, YEAR_WIDTH, year);
     line.push(b' ');
-    line.push_right(2, Digits::from(month).as_bytes());
+    push_number_right(line, 2, month);
     line.push(b' ');
-    line.push_right(2, Digits::from(day).as_bytes());
+    push_number_right(line, 2, day);
 }
 
 fn push_calendar_row(line: &mut Line, calendar: u64, answer: Result<Date, Refusal>)
@@ -160,7 +197,7 @@ fn push_easter_row(
         Ok(date) => {
             push_columns(line, year, date.month, date.day);
             line.push(b' ');
-            line.push_text(Digits::from(number).as_bytes());
+            push_number(line, number);
         }
         Err(why) => push_refusal(line, why),
     }
@@ -189,9 +226,9 @@ pub fn first_row(calendar: u64, day: u64, year: i64, buffer: &mut [u8]) -> usize
 {
     let mut line = Line::new(buffer);
     push_heading(&mut line, calendar);
-    line.push_right(7, Digits::from(day).as_bytes());
+    push_number_right(&mut line, 7, day);
     line.push(b' ');
-    line.push_right(YEAR_WIDTH, Digits::from(year).as_bytes());
+    push_year_right(&mut line, YEAR_WIDTH, year);
     line.end
 }
 
@@ -214,11 +251,11 @@ pub fn position_row(position: u64, answer: Result<Position, Refusal>, buffer: &m
 {
     let days = answer.map_or(0, Position::days);
     let mut line = Line::new(buffer);
-    line.push_right(2, Digits::from(position).as_bytes());
+    push_number_right(&mut line, 2, position);
     line.push(b' ');
     line.push_left(5, kind(answer));
     line.push(b' ');
-    line.push_right(2, Digits::from(days).as_bytes());
+    push_number_right(&mut line, 2, days);
     line.end
 }
 
@@ -228,7 +265,7 @@ pub fn answer_row(number: u64, buffer: &mut [u8]) -> usize
     ensures within { Counts result buffer.new }
 {
     let mut line = Line::new(buffer);
-    line.push_right(2, Digits::from(number).as_bytes());
+    push_number_right(&mut line, 2, number);
     line.push(b' ');
     push_answer(&mut line, number);
     line.end

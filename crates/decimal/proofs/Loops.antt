@@ -1,4 +1,4 @@
--- What the loop of `Digits::from` keeps: the digits of the rest, and then those that are written, are the text, and the rest has room. Each round keeps it.
+-- What the loop of `Digits::put` keeps: the digits of the rest, and then those that are written, are the text, and the rest has room. Each round keeps it.
 use mathlib.Core.Path.{◌≡◌, sym, ap, ◌∙◌}
 use mathlib.Core.List.{List, ◌∷◌, ◌++◌}
 use Prim.Native.Nat.{ℕ, zero, suc, ◌+◌, ◌/◌, ◌%◌, ◌^◌, ◌≤◌, ◌<◌}

@@ -98,10 +98,49 @@ impl Model for Digits {
 }
 
 impl Digits {
+    // The text of 0.
+    #[tactic(auto, unfolding(crate::specs::Decimal::digits_in))]
+    pub fn new() -> Digits
+        ensures { result ≡ text 0 }
+    {
+        Digits {
+            bytes: [b'0'; 20],
+            start: 19,
+        }
+    }
+
     pub fn as_bytes(&self) -> &[u8]
         ensures { result.now ≡ self.now }
     {
         &self.bytes[self.start..]
+    }
+
+    // The text of a number in place of another. What `from` answers is a copy, and a copy of bytes that have only just been stored one by one waits for the last
+    // of them, as long as the digits take.
+    pub fn put(&mut self, n: u64)
+        ensures { self.new ≡ text n }
+    {
+        // A `for` over the places has twenty turns, which the compiler unrolls, with all bytes in registers of their own: that took four times as long.
+        let mut start = 19;
+        let mut rest = n;
+        while 10 <= rest {
+            self.bytes[start] = b'0' + (rest % 10) as u8;
+            rest /= 10;
+            start -= 1;
+        }
+        self.bytes[start] = b'0' + (rest % 10) as u8;
+        self.start = start;
+    }
+
+    // The same of a signed number.
+    pub fn put_signed(&mut self, n: i64)
+        ensures { self.new ≡ signed_text n }
+    {
+        self.put(n.unsigned_abs());
+        if n < 0 {
+            self.start -= 1;
+            self.bytes[self.start] = b'-';
+        }
     }
 }
 
@@ -111,17 +150,9 @@ impl From<u64> for Digits {
     fn from(n: u64) -> Digits
         ensures { result ≡ text n }
     {
-        let mut bytes = [b'0'; 20];
-        let mut rest = n;
-        // A `for` over the places has twenty turns, which the compiler unrolls, with all bytes in registers of their own: that took four times as long.
-        let mut start = 19;
-        while 10 <= rest {
-            bytes[start] = b'0' + (rest % 10) as u8;
-            rest /= 10;
-            start -= 1;
-        }
-        bytes[start] = b'0' + (rest % 10) as u8;
-        Digits { bytes, start }
+        let mut digits = Digits::new();
+        digits.put(n);
+        digits
     }
 }
 
@@ -131,11 +162,8 @@ impl From<i64> for Digits {
     fn from(n: i64) -> Digits
         ensures { result ≡ signed_text n }
     {
-        let mut digits = Digits::from(n.unsigned_abs());
-        if n < 0 {
-            digits.start -= 1;
-            digits.bytes[digits.start] = b'-';
-        }
+        let mut digits = Digits::new();
+        digits.put_signed(n);
         digits
     }
 }

@@ -5,8 +5,10 @@ use printing::{push_number, write_number, write_numbers};
 use std::io;
 use std::io::Write;
 
+// In place: a result that a call hands on is copied, which would take longer than all else here.
+#[inline(always)]
 pub(crate) fn no_request(out: &mut impl Write) -> io::Result<()> {
-    write!(out, "not a request")
+    out.write_all(b"not a request")
 }
 
 // The answer number, a, b and r: put together and written at once.

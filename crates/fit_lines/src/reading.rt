@@ -43,15 +43,6 @@ impl Request {
         }
     }
 
-    fn take_byte(&mut self, byte: u8) {
-        match self.place {
-            Place::Start | Place::Word => self.take_letter(byte),
-            Place::Numbers if byte == b' ' => self.end_number(),
-            Place::Numbers => self.last.push(byte),
-            Place::Wrong => {}
-        }
-    }
-
     fn take_letter(&mut self, byte: u8) {
         self.place = if byte == b' ' {
             Place::Numbers
@@ -60,6 +51,22 @@ impl Request {
         } else {
             Place::Wrong
         };
+    }
+
+    // What stands behind the word. A line with a wrong number is read on to the end of these bytes: what follows changes nothing in its answer.
+    fn take_numbers(&mut self, bytes: &[u8]) {
+        // In a local, and so in registers: read and written in place at each byte, the number takes half as long again.
+        let mut last = self.last;
+        for &byte in bytes {
+            if byte != b' ' {
+                last.push(byte);
+            } else if last != Number::Empty {
+                self.last = last;
+                self.end_number();
+                last = Number::Empty;
+            }
+        }
+        self.last = last;
     }
 
     // A number is kept where there is room, and passed over where there is none.
@@ -83,20 +90,13 @@ impl RequestLine for Request {
     }
 
     fn take(&mut self, bytes: &[u8]) {
-        // In a local while digits and blanks come, and so in registers: read and written in place, the number takes half as long again.
-        let mut last = self.last;
-        for &byte in bytes {
+        for (k, &byte) in bytes.iter().enumerate() {
             match self.place {
-                Place::Numbers if byte != b' ' => last.push(byte),
-                Place::Numbers if last == Number::Empty => {}
-                _ => {
-                    self.last = last;
-                    self.take_byte(byte);
-                    last = self.last;
-                }
+                Place::Start | Place::Word => self.take_letter(byte),
+                Place::Numbers => return self.take_numbers(&bytes[k..]),
+                Place::Wrong => return,
             }
         }
-        self.last = last;
     }
 
     fn answer(&mut self, out: &mut impl Write) -> io::Result<()> {

@@ -9,8 +9,8 @@ use Rattle.std.specs.Prelude.{Option, Some, None}
 use Rattle.std.specs.Io.KnownBytes.{Appends}
 use Rattle.printing.specs.Good.{good, held}
 
--- What appends bytes to an output that failed, by what `Write` promises, as `write!` and `write_numbers` do, leaves it failed, and has no bytes to append: with
--- any byte it answers an error.
+-- What appends bytes to an output that failed, by what `Write` promises of an answer Ok, as `write!` and `write_numbers` do, leaves it failed, and has no bytes
+-- to append: with any byte it answers an error. The methods of `Output`, by which alone it gets there, say on every answer that it stays failed.
 pub stays_failed : (old new : Option ℕ) (bytes : List ℕ) → good old ≡ false → Appends (held old) (held new) bytes → (good new ≡ false) × (bytes ≡ [])
 stays_failed (Some n) new bytes f a = absurd (true≢false f)
 stays_failed None (Some n) bytes f a = absurd a

@@ -1,2 +1,3 @@
 pub mod Batches
 pub mod Claims
+pub mod Pushed

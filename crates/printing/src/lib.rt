@@ -3,7 +3,7 @@
 // `push_..` and `write_..` say their bytes. `proofs/Claims.antt` says what all that is written by way of `Write`, as by `write!`, promises of an output that failed.
 #![tactic(auto)]
 
-ghost use Rattle.std.specs.Prelude.{◌≡◌, ◌≤◌, Some, IfErr, IfOk, IsErr, IsOk, OnOk, OnErr, length, false, decimal, ◌+◌, ◌++◌};
+ghost use Rattle.std.specs.Prelude.{◌≡◌, ◌≤◌, Some, IfErr, IfOk, IsErr, IsOk, OnOk, OnErr, length, false, decimal, [], ◌∷◌, ◌+◌, ◌%◌, ◌<◌, ◌++◌};
 ghost use Rattle.arrayvec.specs.ArrayVec.{array_vec_len};
 ghost use Rattle.std.specs.Fmt.{signed_decimal};
 ghost use Rattle.std.specs.Io.{WritesAtMost};
@@ -144,23 +144,79 @@ impl<P: Print> Write for Output<'_, P> {
     }
 }
 
+fn push_byte<const N: usize>(text: &mut ArrayVec<u8, N>, byte: u8)
+    ensures { array_vec_len text.old < N → text.new.items ≡ text.old.items ++ byte ∷ [] }
+{
+    let _ = text.try_push(byte);
+}
+
+// The last digit of a number.
+fn push_digit<const N: usize>(text: &mut ArrayVec<u8, N>, n: u64)
+    ensures { array_vec_len text.old < N → text.new.items ≡ text.old.items ++ (48 + n % 10) ∷ [] }
+{
+    push_byte(text, b'0' + (n % 10) as u8);
+}
+
+// The digits of a number, one by one: a copy of several bytes at once would wait for the last of them, which has only just been stored, and the next number for
+// the copy.
+#[tactic(auto, using(std::proofs::lemmas::Fmt::decimal_digit))]
+fn push_each_digit<const N: usize>(text: &mut ArrayVec<u8, N>, n: u64)
+    ensures { array_vec_len text.old + length (decimal n) ≤ N → text.new.items ≡ text.old.items ++ decimal n }
+{
+    if n < 10 {
+        push_digit(text, n);
+        return;
+    }
+    push_each_digit(text, n / 10);
+    push_digit(text, n);
+}
+
+// The same, the last two digits without a call: the length of a month has no more.
+fn push_digits<const N: usize>(text: &mut ArrayVec<u8, N>, n: u64)
+    ensures bytes { array_vec_len text.old + length (decimal n) ≤ N → text.new.items ≡ text.old.items ++ decimal n }
+    ensures long { array_vec_len text.old + length (decimal n) ≤ N → array_vec_len text.new ≡ array_vec_len text.old + length (decimal n) }
+{
+    match n {
+        0..=9 => push_digit(text, n),
+        10..=99 => {
+            push_digit(text, n / 10);
+            push_digit(text, n);
+        }
+        _ => {
+            push_each_digit(text, n / 100);
+            push_digit(text, n / 10);
+            push_digit(text, n);
+        }
+    }
+}
+
+// The digits of a signed number, behind a minus sign where it is negative.
+fn push_sign_and_digits<const N: usize>(text: &mut ArrayVec<u8, N>, n: i64)
+    ensures bytes { array_vec_len text.old + length (signed_decimal n) ≤ N → text.new.items ≡ text.old.items ++ signed_decimal n }
+    ensures long { array_vec_len text.old + length (signed_decimal n) ≤ N → array_vec_len text.new ≡ array_vec_len text.old + length (signed_decimal n) }
+{
+    if n < 0 {
+        push_byte(text, b'-');
+    }
+    push_each_digit(text, n.unsigned_abs());
+}
+
 // A number in decimal digits, behind a text that has room for twenty.
-#[tactic(auto, using(decimal::proofs::Claims::shown, decimal::proofs::Claims::text_length))]
+#[tactic(auto, using(crate::proofs::Pushed::few))]
 pub fn push_number<const N: usize>(text: &mut ArrayVec<u8, N>, n: u64)
     ensures bytes { array_vec_len text.old + 20 ≤ N → text.new.items ≡ text.old.items ++ decimal n }
     ensures short { array_vec_len text.old + 20 ≤ N → array_vec_len text.new ≤ array_vec_len text.old + 20 }
 {
-    let _ = text.try_extend_from_slice(Digits::from(n).as_bytes());
+    push_digits(text, n);
 }
 
 // The same of a signed number, with a minus sign before a negative one.
-#[tactic(auto, using(decimal::proofs::Claims::signed_shown, decimal::proofs::Claims::signed_length))]
+#[tactic(auto, using(crate::proofs::Pushed::few_signed))]
 pub fn push_signed<const N: usize>(text: &mut ArrayVec<u8, N>, n: i64)
     ensures bytes { array_vec_len text.old + 20 ≤ N → text.new.items ≡ text.old.items ++ signed_decimal n }
     ensures short { array_vec_len text.old + 20 ≤ N → array_vec_len text.new ≤ array_vec_len text.old + 20 }
 {
-    let digits = Digits::from(n);
-    let _ = text.try_extend_from_slice(digits.as_bytes());
+    push_sign_and_digits(text, n);
 }
 
 // A number in decimal digits, to any writer.
@@ -168,7 +224,9 @@ pub fn push_signed<const N: usize>(text: &mut ArrayVec<u8, N>, n: i64)
 pub fn write_number<W: Write>(out: &mut W, n: u64) -> io::Result<()>
     ensures { OnOk result (Appends (W.contents out.old) (W.contents out.new) (decimal n)) }
 {
-    out.write_all(Digits::from(n).as_bytes())
+    let mut digits = Digits::new();
+    digits.put(n);
+    out.write_all(digits.as_bytes())
 }
 
 // So many numbers are put together and written at once: a write for each costs more than the number. Each is at most 20 bytes, and has a space before it.

@@ -8,5 +8,4 @@ use Rattle.answer_lines.proofs.answer_row.Goals as goal
 pub returns-clause-text : goal.returns-clause-text
 unfolding answer_row bytes
 returns-clause-text c =
-    let number = rw (c.as_bytes.ensures ∙ c.from.ensures) at c.push_right.ensures in
-    finished c.new-line.ensures (then (then number c.push.ensures) c.push_answer.ensures) refl (search rules)
+    finished c.new-line.ensures (then (then c.push_number_right.ensures c.push.ensures) c.push_answer.ensures) refl (search rules)

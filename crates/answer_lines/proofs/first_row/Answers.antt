@@ -10,6 +10,5 @@ use Rattle.answer_lines.proofs.first_row.Goals as goal
 pub returns-clause-text : goal.returns-clause-text
 unfolding first_row bytes
 returns-clause-text c =
-    let day = rw (c.as_bytes.ensures ∙ c.from.ensures) at c.push_right.ensures in
-    let year = rw (c.as_bytes-2.ensures ∙ c.from-2.ensures, to_z-of_z w64 c.args.year c.ranges.year) at c.push_right-2.ensures in
-    finished c.new-line.ensures (then (then (then c.push_heading.ensures day) c.push.ensures) year) refl (search rules)
+    let year = rw (to_z-of_z w64 c.args.year c.ranges.year) at c.push_year_right.ensures in
+    finished c.new-line.ensures (then (then (then c.push_heading.ensures c.push_number_right.ensures) c.push.ensures) year) refl (search rules)

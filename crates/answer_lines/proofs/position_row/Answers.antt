@@ -9,8 +9,7 @@ use Rattle.answer_lines.proofs.position_row.Goals as goal
 pub returns-clause-text : goal.returns-clause-text
 unfolding position_row bytes
 returns-clause-text c =
-    let number = rw (c.as_bytes.ensures ∙ c.from.ensures) at c.push_right.ensures in
     let n : c.map_or-days.result ≡ (position_paper c.args.answer).days = search rules in
-    let days = rw (c.as_bytes-2.ensures ∙ c.from-2.ensures, n) at c.push_right-2.ensures in
+    let days = rw n at c.push_number_right-2.ensures in
     let kind = rw c.kind.ensures at c.push_left.ensures in
-    finished c.new-line.ensures (then (then (then (then number c.push.ensures) kind) c.push-2.ensures) days) refl (search rules)
+    finished c.new-line.ensures (then (then (then (then c.push_number_right.ensures c.push.ensures) kind) c.push-2.ensures) days) refl (search rules)

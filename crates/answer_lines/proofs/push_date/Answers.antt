@@ -1,4 +1,3 @@
-use mathlib.Core.Path.{◌∙◌}
 use mir.Syntax.{w64}
 use mir.Val.{SFits}
 use mir.ValLaws.{to_z-of_z}
@@ -13,10 +12,8 @@ pub returns-in-Ok : goal.returns-in-Ok
 unfolding date_line or_refusal date_text bytes
 returns-in-Ok c =
     let y : SFits w64 c.in-Ok.date.year = search rules in
-    let year = rw (c.as_bytes.ensures ∙ c.from.ensures, to_z-of_z w64 c.in-Ok.date.year y) at c.push_text.ensures in
-    let month = rw (c.as_bytes-in-Ok.ensures ∙ c.from-in-Ok.ensures) at c.push_text-in-Ok.ensures in
-    let day = rw (c.as_bytes-in-Ok-2.ensures ∙ c.from-in-Ok-2.ensures) at c.push_text-in-Ok-2.ensures in
-    rw c.in-Ok.is (then (then (then (then (then (then year c.push.ensures) month) c.push-in-Ok.ensures) day) c.push-in-Ok-2.ensures) c.push_weekday.ensures)
+    let year = rw (to_z-of_z w64 c.in-Ok.date.year y) at c.push_year.ensures in
+    rw c.in-Ok.is (then (then (then (then (then (then year c.push.ensures) c.push_number.ensures) c.push-in-Ok.ensures) c.push_number-in-Ok.ensures) c.push-in-Ok-2.ensures) c.push_weekday.ensures)
 
 pub returns-in-Err : goal.returns-in-Err
 unfolding date_line or_refusal

@@ -1,4 +1,3 @@
-use mathlib.Core.Path.{◌∙◌}
 use Rattle.words.specs.Text.{bytes}
 use Rattle.texts.proofs.Lines.{then}
 use Rattle.answer_lines.specs.Lines.{or_refusal, day_line, day_text}
@@ -8,8 +7,7 @@ use Rattle.answer_lines.proofs.push_day.Goals as goal
 pub returns-in-Ok : goal.returns-in-Ok
 unfolding day_line or_refusal day_text bytes
 returns-in-Ok c =
-    let day = rw (c.as_bytes.ensures ∙ c.from.ensures) at c.push_text.ensures in
-    rw c.in-Ok.is (then (then day c.push.ensures) (rw c.weekday_of.ensures at c.push_weekday.ensures))
+    rw c.in-Ok.is (then (then c.push_number.ensures c.push.ensures) (rw c.weekday_of.ensures at c.push_weekday.ensures))
 
 pub returns-in-Err : goal.returns-in-Err
 unfolding day_line or_refusal

@@ -1,4 +1,3 @@
-use mathlib.Core.Path.{◌∙◌}
 use mir.Syntax.{w64}
 use mir.ValLaws.{to_z-of_z}
 use Rattle.words.specs.Text.{bytes}
@@ -11,8 +10,7 @@ pub returns-in-Ok : goal.returns-in-Ok
 unfolding easter_row or_refusal bytes
 returns-in-Ok c =
     let date = rw (to_z-of_z w64 c.args.year c.ranges.year) at c.push_columns.ensures in
-    let number = rw (c.as_bytes.ensures ∙ c.from.ensures) at c.push_text.ensures in
-    rw c.in-Ok.is (then c.push_heading.ensures (then (then date c.push.ensures) number))
+    rw c.in-Ok.is (then c.push_heading.ensures (then (then date c.push.ensures) c.push_number.ensures))
 
 pub returns-in-Err : goal.returns-in-Err
 unfolding easter_row or_refusal

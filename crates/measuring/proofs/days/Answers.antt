@@ -1,4 +1,4 @@
-use Rattle.std.proofs.Common.{◌≡◌, ℕ, true, ℤ, w64, FitsSigned, to_z, of_z, sym, subst, ◌∙◌, arith}
+use Rattle.std.proofs.Common.{◌≡◌, ℕ, ◌-◌, true, ℤ, w64, FitsSigned, to_z, of_z, sym, subst, ◌∙◌}
 use Rattle.std.proofs.lemmas.Int.{to_z-of_z}
 use Rattle.months.specs.Parts.{LengthAt}
 use Rattle.asking.specs.Steps.{year_inside, years_since, Sought}
@@ -16,10 +16,10 @@ returns-then-not-year_inside c =
     let e = rw (to_z-of_z w64 a.year c.ranges.year) at c.year_inside.ensures in
     sym (no_days a.calendar a.year a.position (nowhere_year a.calendar a.year a.position (outside a.year (sym e ∙ c.if-not-year_inside.true))))
 
-pub returns-in_err-p : goal.returns-in_err-p
-returns-in_err-p c =
+pub returns-then-position-eq0 : goal.returns-then-position-eq0
+returns-then-position-eq0 c =
     let a = c.args in
-    rw c.from_residual.ensures (sym (no_days a.calendar a.year a.position (nowhere_0 a.calendar a.year a.position (omega (arith, c.in_err-p.ensures)))))
+    sym (no_days a.calendar a.year a.position (nowhere_0 a.calendar a.year a.position c.if-position-eq0.true))
 
 pub length_in-requires : goal.length_in-requires
 length_in-requires c = (taken c.ranges.year (sym c.if-not-year_inside.false ∙ c.year_inside.ensures) c.since.ensures).few
@@ -28,6 +28,5 @@ pub returns : goal.returns
 returns c =
     let a = c.args in
     let y = taken c.ranges.year (sym c.if-not-year_inside.false ∙ c.year_inside.ensures) c.since.ensures in
-    let p = c.in_ok-p.ensures in
-    days_found a.calendar a.year a.position _ (λ z. omega (arith, p.0, z))
-    (rw (← p.1) (subst (λ (z : ℤ). Sought a.calendar z (λ K i. LengthAt K i c.in_ok-p.p c.length_in.result) c.length_in.result) y.back c.length_in.ensures))
+    days_found a.calendar a.year a.position _ c.if-position-eq0.false
+    (subst (λ (z : ℤ). Sought a.calendar z (λ K i. LengthAt K i (a.position - 1) c.length_in.result) c.length_in.result) y.back c.length_in.ensures)

@@ -1,9 +1,9 @@
 use Prim.Native.Nat.{suc, ◌≤◌}
 use Rattle.decimal.proofs.Loops.{Written}
-use Rattle.decimal.proofs.DigitsFromU64.from.Given as goal
+use Rattle.decimal.proofs.Digits.put.Given as goal
 
 abbrev pub invariant-loop-rest : goal.invariant-loop-rest
-invariant-loop-rest l = Written l.n l.bytes l.rest (suc l.start) × (l.start ≤ 19)
+invariant-loop-rest l = Written l.n l.self-inside.bytes l.rest (suc l.start) × (l.start ≤ 19)
 
 abbrev pub decreases-loop-rest : goal.decreases-loop-rest
 decreases-loop-rest l = l.rest

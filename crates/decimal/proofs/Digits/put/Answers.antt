@@ -3,17 +3,18 @@ use Prim.Native.Nat.{suc, ◌-◌}
 use native.Mathlib.Omega.{arith}
 use lib.ListN.{length-set}
 use Rattle.decimal.proofs.Loops.{before, shorter, last, next}
-use Rattle.decimal.proofs.DigitsFromU64.from.Goals as goal
+use Rattle.decimal.proofs.Digits.put.Goals as goal
 
 pub loop-rest-preserved : goal.loop-rest-preserved
 loop-rest-preserved c =
     let l = c.loop-rest in
+    let bytes = l.self-inside.bytes in
     let w = l.invariant.0 in
     let many = c.loop-rest-test.true in
     let e : suc (l.start - 1) ≡ l.start = omega (arith, before l.start l.rest w.room many) in (
       rw e
           (record {
-            size = length-set l.bytes l.start _ ∙ w.size;
+            size = length-set bytes l.start _ ∙ w.size;
             all = next l.start w (omega (arith, w.size, l.invariant.1)) (λ z. omega (arith, z, many));
             room = shorter l.start l.rest w.room;
           }),
