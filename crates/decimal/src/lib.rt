@@ -70,6 +70,7 @@ impl Number {
 impl From<&[u8]> for Number {
     ghost from_gives = { λ text number. number ≡ number_of text.now };
 
+    #[tactic(auto, using(crate::proofs::Laws::more_at), unfolding(crate::specs::Decimal::number_of))]
     fn from(text: &[u8]) -> Number
         ensures { result ≡ number_of text.now }
     {

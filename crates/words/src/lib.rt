@@ -155,6 +155,7 @@ impl Word {
 impl From<&[u8]> for Word {
     ghost from_gives = { λ text word. word ≡ word_of text.now };
 
+    #[tactic(auto, using(crate::proofs::Packing::read_more))]
     fn from(text: &[u8]) -> Word
         ensures { result ≡ word_of text.now }
     {
